@@ -1,0 +1,4 @@
+pub mod Laws
+pub mod Operations
+pub mod Search
+pub mod Sets

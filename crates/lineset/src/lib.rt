@@ -1,0 +1,141 @@
+// Sets of scan lines: 256 line numbers as four 64-bit words, line 0 in the lowest bit of the first.
+ghost use mathlib.Core.Path.{_≡_};
+ghost use mathlib.Core.Bool.{false, _||_};
+ghost use Prim.Native.Nat.{ℕ, _-_};
+ghost use lib.Dec.{ltb};
+ghost use Rattle.lineset.specs.Lines.{member, setOf, countOf, firstOf, shownLines, inside};
+
+#[repr(C)]
+pub struct LineSet {
+    pub words: [u64; 4],
+}
+
+// A line that a search finds.
+pub enum Line {
+    At(u16),
+    Nothing,
+}
+
+// How many lines a frame rate shows: 256 at 50 Hz, 200 at 60 Hz, none at any other rate.
+pub fn shown_lines(rate: u8) -> u16
+    ensures { λ r. ⌜ r ≡ shownLines rate ⌝ }
+{
+    if rate == 50 {
+        return 256;
+    }
+    if rate == 60 {
+        return 200;
+    }
+    0
+}
+
+impl LineSet {
+    pub fn empty() -> LineSet
+        ensures { λ r. ⌜ r ≡ setOf (λ (L : ℕ). false) ⌝ }
+    {
+        LineSet {
+            words: [0, 0, 0, 0],
+        }
+    }
+
+    // The lines that a frame rate shows.
+    pub fn shown(rate: u8) -> LineSet
+        ensures { λ r. ⌜ r ≡ setOf (λ (L : ℕ). ltb L (shownLines rate)) ⌝ }
+    {
+        if rate == 50 {
+            return LineSet {
+                words: [
+                    0xffff_ffff_ffff_ffff,
+                    0xffff_ffff_ffff_ffff,
+                    0xffff_ffff_ffff_ffff,
+                    0xffff_ffff_ffff_ffff,
+                ],
+            };
+        }
+        if rate == 60 {
+            return LineSet {
+                words: [
+                    0xffff_ffff_ffff_ffff,
+                    0xffff_ffff_ffff_ffff,
+                    0xffff_ffff_ffff_ffff,
+                    0xff,
+                ],
+            };
+        }
+        LineSet {
+            words: [0; 4],
+        }
+    }
+
+    pub fn contains(self, line: u16) -> bool
+        ensures { λ r. ⌜ r ≡ member self line ⌝ }
+    {
+        if line > 255 {
+            return false;
+        }
+        let i = (line / 64) as usize;
+        (self.words[i] >> (line % 64)) % 2 == 1
+    }
+
+    pub fn union(self, other: LineSet) -> LineSet
+        ensures { λ r. ⌜ r ≡ setOf (λ (L : ℕ). member self L || member other L) ⌝ }
+    {
+        LineSet {
+            words: [
+                self.words[0] | other.words[0],
+                self.words[1] | other.words[1],
+                self.words[2] | other.words[2],
+                self.words[3] | other.words[3],
+            ],
+        }
+    }
+
+    // Whether every line of the set is in the other too.
+    pub fn within(self, other: LineSet) -> bool
+        ensures { λ r. ⌜ r ≡ inside self other ⌝ }
+    {
+        if self.words[0] | other.words[0] != other.words[0] {
+            return false;
+        }
+        if self.words[1] | other.words[1] != other.words[1] {
+            return false;
+        }
+        if self.words[2] | other.words[2] != other.words[2] {
+            return false;
+        }
+        self.words[3] | other.words[3] == other.words[3]
+    }
+
+    pub fn count(self) -> u16
+        ensures { λ r. ⌜ r ≡ countOf (member self) 0 256 ⌝ }
+    {
+        let a = u64::count_ones(self.words[0]) as u16;
+        let b = u64::count_ones(self.words[1]) as u16;
+        let c = u64::count_ones(self.words[2]) as u16;
+        let d = u64::count_ones(self.words[3]) as u16;
+        a + b + c + d
+    }
+
+    // The first line of the set at or after n; nothing for n over 255.
+    pub fn next(self, n: u16) -> Line
+        ensures { λ r. ⌜ r ≡ firstOf (member self) n (256 - n) ⌝ }
+    {
+        if n > 255 {
+            return Line::Nothing;
+        }
+        let mut i = (n / 64) as usize;
+        let w = self.words[i] >> (n % 64);
+        if w != 0 {
+            return Line::At(n + u64::trailing_zeros(w) as u16);
+        }
+        i += 1;
+        while i < 4 {
+            let w = self.words[i];
+            if w != 0 {
+                return Line::At((i as u16) * 64 + u64::trailing_zeros(w) as u16);
+            }
+            i += 1;
+        }
+        Line::Nothing
+    }
+}
