@@ -10,7 +10,7 @@ use mathlib.Core.List.{List, [], _∷_}
 use lib.Dec.{eqb, ltb}
 use borrow.Author.Tests.{eqb-true, eqb-false, ne-eqb}
 use lib.Arith.{lt-of-le-ne}
-use lib.Bits.{bitOr, or-block}
+use lib.Bits.{bitOr, bitAnd, or-block, and-block}
 use lib.Count.{ones, ones-step, trailingZeros, under}
 use lib.Pow.{shr-shr}
 use mir.Val.{boolByte}
@@ -85,12 +85,28 @@ or-digit true false = refl
 or-digit false true = refl
 or-digit false false = refl
 
+and-digit : (a b : Bool) → bitAnd (boolByte a) (boolByte b) ≡ boolByte (a && b)
+and-digit true true = refl
+and-digit true false = refl
+and-digit false true = refl
+and-digit false false = refl
+
+-- an operation on words that goes digit by digit, as `bitOr` and `bitAnd` do, is the test on the packed numbers
+module _ (op : ℕ → ℕ → ℕ) (test : Bool → Bool → Bool) (none : op 0 0 ≡ 0)
+    (step : (a b r s : ℕ) → r < 2 ^ 1 → s < 2 ^ 1 → op (a * 2 ^ 1 + r) (b * 2 ^ 1 + s) ≡ op a b * 2 ^ 1 + op r s)
+    (digit : (a b : Bool) → op (boolByte a) (boolByte b) ≡ boolByte (test a b)) where
+  digits-packed : (p q : ℕ → Bool) (from n : ℕ) → op (packed p from n) (packed q from n) ≡ packed (λ (L : ℕ). test (p L) (q L)) from n
+  unfolding packed
+  digits-packed p q from zero = none
+  digits-packed p q from (suc n) =
+      step (packed p (suc from) n) (packed q (suc from) n) (boolByte (p from)) (boolByte (q from)) (boolByte-lt (p from)) (boolByte-lt (q from))
+      ∙ ap₂ (λ (w d : ℕ). w * 2 + d) (digits-packed p q (suc from) n) (digit (p from) (q from))
+
 pub or-packed : (p q : ℕ → Bool) (from n : ℕ) → bitOr (packed p from n) (packed q from n) ≡ packed (λ (L : ℕ). p L || q L) from n
-unfolding packed
-or-packed p q from zero = refl
-or-packed p q from (suc n) =
-    or-block 1 (packed p (suc from) n) (packed q (suc from) n) (boolByte (p from)) (boolByte (q from)) (boolByte-lt (p from)) (boolByte-lt (q from))
-    ∙ ap₂ (λ (w d : ℕ). w * 2 + d) (or-packed p q (suc from) n) (or-digit (p from) (q from))
+or-packed = digits-packed bitOr _||_ refl (or-block 1) or-digit
+
+pub and-packed : (p q : ℕ → Bool) (from n : ℕ) → bitAnd (packed p from n) (packed q from n) ≡ packed (λ (L : ℕ). p L && q L) from n
+and-packed = digits-packed bitAnd _&&_ refl (and-block 1) and-digit
 
 pub ones-packed : (p : ℕ → Bool) (from n : ℕ) → ones (packed p from n) ≡ countOf p from n
 unfolding countOf

@@ -8,7 +8,7 @@ use mathlib.Core.Bool.{Bool, true, false, not, _&&_, _||_}
 use mathlib.Core.List.{List, [], _∷_}
 use borrow.Author.Tests.{eq-eqb, ne-eqb, eqb-true, eqb-false}
 use lib.Dec.{eqb, ltb}
-use lib.Bits.{bitOr, or-block}
+use lib.Bits.{bitOr, bitAnd, or-block}
 use lib.Count.{ones, ones-le, trailingZeros}
 use lib.ListN.{getD}
 use mir.Val.{boolByte}
@@ -16,7 +16,7 @@ use Rattle.lineset.specs.declared.LineSet.{LineSet}
 use Rattle.lineset.specs.declared.Line.{Line}
 use Rattle.lineset.specs.declared.Line.the-variants.{At, Nothing}
 use Rattle.lineset.specs.Lines.{packed, setOf, member, countOf, firstOf, every, inside}
-use Rattle.lineset.proofs.Laws.{boolByte-lt, packed-shift, or-packed, ones-packed, count-add}
+use Rattle.lineset.proofs.Laws.{boolByte-lt, packed-shift, or-packed, and-packed, ones-packed, count-add}
 use Rattle.lineset.proofs.Search.{first-none, first-some, every-add}
 use Rattle.lineset.proofs.Sets.{Words, word-members}
 
@@ -26,10 +26,24 @@ pub four-words : (p : ℕ → Bool) (a b c d : ℕ) → a ≡ packed p 0 64 → 
 unfolding setOf
 four-words p a b c d e f g h = λ i. record { words = e i ∷ f i ∷ g i ∷ h i ∷ [] }
 
-module _ (s t : LineSet) (ws : Words s) (wt : Words t) where
-  or-word : (j : ℕ) → bitOr (getD (s .words) j 0) (getD (t .words) j 0) ≡ packed (λ (L : ℕ). member s L || member t L) (64 * j) 64
-  or-word j = ap₂ bitOr (sym (word-members s ws j)) (sym (word-members t wt j)) ∙ or-packed (member s) (member t) (64 * j) 64
+-- an operation on words that packs a test of two members, on all four words
+module _ (op : ℕ → ℕ → ℕ) (test : Bool → Bool → Bool)
+    (packs : (p q : ℕ → Bool) (from n : ℕ) → op (packed p from n) (packed q from n) ≡ packed (λ (L : ℕ). test (p L) (q L)) from n)
+    (s t : LineSet) (ws : Words s) (wt : Words t) where
+  op-word : (j : ℕ) → op (getD (s .words) j 0) (getD (t .words) j 0) ≡ packed (λ (L : ℕ). test (member s L) (member t L)) (64 * j) 64
+  op-word j = ap₂ op (sym (word-members s ws j)) (sym (word-members t wt j)) ∙ packs (member s) (member t) (64 * j) 64
 
+  op-words : _≡_ {A = LineSet}
+      (record {
+        words =
+            op (getD (s .words) 0 0) (getD (t .words) 0 0) ∷ op (getD (s .words) 1 0) (getD (t .words) 1 0) ∷ op (getD (s .words) 2 0) (getD (t .words) 2 0)
+            ∷ op (getD (s .words) 3 0) (getD (t .words) 3 0)
+            ∷ [];
+      })
+      (setOf (λ (L : ℕ). test (member s L) (member t L)))
+  op-words = four-words (λ (L : ℕ). test (member s L) (member t L)) _ _ _ _ (op-word 0) (op-word 1) (op-word 2) (op-word 3)
+
+module _ (s t : LineSet) (ws : Words s) (wt : Words t) where
   pub or-words : _≡_ {A = LineSet}
       (record {
         words =
@@ -39,7 +53,18 @@ module _ (s t : LineSet) (ws : Words s) (wt : Words t) where
             ∷ [];
       })
       (setOf (λ (L : ℕ). member s L || member t L))
-  or-words = four-words (λ (L : ℕ). member s L || member t L) _ _ _ _ (or-word 0) (or-word 1) (or-word 2) (or-word 3)
+  or-words = op-words bitOr _||_ or-packed s t ws wt
+
+  pub and-words : _≡_ {A = LineSet}
+      (record {
+        words =
+            bitAnd (getD (s .words) 0 0) (getD (t .words) 0 0) ∷ bitAnd (getD (s .words) 1 0) (getD (t .words) 1 0)
+            ∷ bitAnd (getD (s .words) 2 0) (getD (t .words) 2 0)
+            ∷ bitAnd (getD (s .words) 3 0) (getD (t .words) 3 0)
+            ∷ [];
+      })
+      (setOf (λ (L : ℕ). member s L && member t L))
+  and-words = op-words bitAnd _&&_ and-packed s t ws wt
 
 -- the ones of the four words are the lines of the set
 pub count-words : (s : LineSet) → Words s

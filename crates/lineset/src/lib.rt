@@ -1,6 +1,6 @@
 // Sets of scan lines: 256 line numbers as four 64-bit words, line 0 in the lowest bit of the first.
 ghost use mathlib.Core.Path.{_≡_};
-ghost use mathlib.Core.Bool.{false, _||_};
+ghost use mathlib.Core.Bool.{false, _&&_, _||_};
 ghost use Prim.Native.Nat.{ℕ, _-_};
 ghost use lib.Dec.{ltb};
 ghost use Rattle.lineset.specs.Lines.{member, setOf, countOf, firstOf, shownLines, inside};
@@ -62,9 +62,7 @@ impl LineSet {
                 ],
             };
         }
-        LineSet {
-            words: [0; 4],
-        }
+        LineSet { words: [0; 4] }
     }
 
     pub fn contains(self, line: u16) -> bool
@@ -86,6 +84,20 @@ impl LineSet {
                 self.words[1] | other.words[1],
                 self.words[2] | other.words[2],
                 self.words[3] | other.words[3],
+            ],
+        }
+    }
+
+    // The lines that are in both sets.
+    pub fn intersection(self, other: LineSet) -> LineSet
+        ensures { λ r. ⌜ r ≡ setOf (λ (L : ℕ). member self L && member other L) ⌝ }
+    {
+        LineSet {
+            words: [
+                self.words[0] & other.words[0],
+                self.words[1] & other.words[1],
+                self.words[2] & other.words[2],
+                self.words[3] & other.words[3],
             ],
         }
     }
