@@ -1,15 +1,15 @@
--- Laws of searches: the first number that a test holds of, and tests of all and of any numbers of a range.
+-- Laws of searches: the first number that a test holds of, and tests of all numbers of a range.
 -- Assumes nothing.
 use Prim.Native.Nat.{ℕ, zero, suc, _+_, _-_, _*_, _/_, _%_, _^_, _≤_, _<_}
 use native.Mathlib.Nat.{add-suc, suc-add, add-zero, zero-add, le-of-suc-le-suc, not-suc-le-zero}
 use native.Mathlib.Omega.{arith}
 use mathlib.Core.Path.{_≡_, refl, sym, _∙_, ap, ap₂}
-use mathlib.Core.Bool.{Bool, true, false, cond, _&&_, _||_, true≢false, and-assoc}
+use mathlib.Core.Bool.{Bool, true, false, cond, _&&_, true≢false, and-assoc}
 use lib.Count.{trailingZeros, under}
 use mir.Val.{boolByte}
 use Rattle.lineset.specs.declared.Line.{Line}
 use Rattle.lineset.specs.declared.Line.the-variants.{At, Nothing}
-use Rattle.lineset.specs.Lines.{packed, firstOf, every, any}
+use Rattle.lineset.specs.Lines.{packed, firstOf, every}
 use Rattle.lineset.proofs.Laws.{packed-low, packed-half}
 
 digit-zero : (b : Bool) → boolByte b ≡ 0 → b ≡ false
@@ -51,10 +51,6 @@ and-true : (a b : Bool) → (a && b) ≡ true → (a ≡ true) × (b ≡ true)
 and-true true b e = (refl, e)
 and-true false b e = absurd (true≢false (sym e))
 
-or-false : (a b : Bool) → (a || b) ≡ false → (a ≡ false) × (b ≡ false)
-or-false true b e = absurd (true≢false e)
-or-false false b e = (refl, e)
-
 -- a test of all numbers of a range: what it tells of each, and that it holds if it holds of each
 pub every-at : (p : ℕ → Bool) (from n : ℕ) → every p from n ≡ true → (i : ℕ) → i < n → p (from + i) ≡ true
 unfolding every
@@ -68,27 +64,6 @@ unfolding every
 every-all p from zero h = refl
 every-all p from (suc n) h =
     rw (rw add-zero at (h zero (omega arith))) (every-all p (suc from) n (λ i l. rw (suc-add, ← add-suc) (h (suc i) (omega arith))))
-
--- a test of any number of a range: that it fails if it fails of each, what its failure tells of each, and that one is enough
-pub any-none : (p : ℕ → Bool) (from n : ℕ) → ((i : ℕ) → i < n → p (from + i) ≡ false) → any p from n ≡ false
-unfolding any
-any-none p from zero h = refl
-any-none p from (suc n) h =
-    rw (rw add-zero at (h zero (omega arith))) (any-none p (suc from) n (λ i l. rw (suc-add, ← add-suc) (h (suc i) (omega arith))))
-
-pub any-false : (p : ℕ → Bool) (from n : ℕ) → any p from n ≡ false → (i : ℕ) → i < n → p (from + i) ≡ false
-unfolding any
-any-false p from zero h i l = absurd (not-suc-le-zero l)
-any-false p from (suc n) h zero l = rw add-zero (or-false (p from) (any p (suc from) n) h .0)
-any-false p from (suc n) h (suc i) l =
-    rw (add-suc, ← suc-add) (any-false p (suc from) n (or-false (p from) (any p (suc from) n) h .1) i (le-of-suc-le-suc l))
-
-pub any-some : (p : ℕ → Bool) (from n i : ℕ) → i < n → p (from + i) ≡ true → any p from n ≡ true
-any-some p from n i l e = go (any p from n) refl
-  where
-    go : (b : Bool) → any p from n ≡ b → any p from n ≡ true
-    go true h = h
-    go false h = absurd (true≢false (sym e ∙ any-false p from n h i l))
 
 -- a range in two parts
 pub every-add : (p : ℕ → Bool) (from m n : ℕ) → every p from (m + n) ≡ (every p from m && every p (from + m) n)

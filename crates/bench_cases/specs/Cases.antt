@@ -1,0 +1,108 @@
+-- The bench cases of document 01, shown of the rules themselves: one list, one statement.
+use Prim.Native.Nat.{ℕ, _+_, _*_}
+use mathlib.Core.Path.{_≡_, refl}
+use mathlib.Core.Bool.{Bool, true, false}
+use mathlib.Core.List.{List, [], _∷_}
+use lib.IntN.{ℤ, pos, negsuc, _-ℤ_}
+use Rattle.lineset.specs.Lines.{any}
+use Rattle.paging.specs.declared.Sizes.{Sizes}
+use Rattle.paging.specs.declared.Paging.{Paging}
+use Rattle.paging.specs.Memory.{bankOf, placeOf, lockWeight, locked, expansion, mapWrite, mapRead, readBlock, writeBlock}
+use Rattle.pointers.specs.Pointers.{tablePlace, entryOf, pointerOf}
+use Rattle.panel.specs.Roll.{rollOf, nearest}
+use Rattle.panel.specs.Widen.{pixelOf, digits, byteOf, doubledByte}
+use Rattle.scanline.specs.Drawing.{pixelPlace, drawnByte}
+
+-- a case: its number, what the rules give, and what document 01 says
+pub record Case : Type 0 where
+  pub number : ℕ
+  pub given : List ℤ
+  pub said : List ℤ
+
+abbrev sizes : ℕ → ℕ → Sizes
+sizes i t = record { internal = i; total = t }
+
+abbrev split : ℕ → Paging
+split lock = record { maps = 0x80 ∷ 0x25 ∷ 0x98 ∷ 0x87 ∷ []; lock = lock }
+
+-- 15 stands for the case of the address FFFFh, which has no number
+abbrev pub cases : List Case
+cases =
+    record { number = 1; given = pos (mapRead (sizes 16 16) false 0x98) ∷ pos (mapWrite (sizes 16 16) 0x98) ∷ []; said = pos 8 ∷ pos 8 ∷ [] }
+    ∷ record { number = 2; given = pos (mapRead (sizes 32 32) false 0x98) ∷ pos (mapWrite (sizes 32 32) 0x98) ∷ []; said = pos 24 ∷ pos 24 ∷ [] }
+    ∷ record { number = 3; given = pos (mapRead (sizes 32 40) false 0xA7) ∷ pos (mapRead (sizes 32 40) false 0xA8) ∷ []; said = pos 39 ∷ pos 8 ∷ [] }
+    ∷ record {
+      number = 4;
+      given = pos (readBlock (sizes 16 16) (split 0x00) 0x4000) ∷ pos (writeBlock (sizes 16 16) (split 0x00) 0x4000) ∷ [];
+      said = pos 2 ∷ pos 5 ∷ [];
+    }
+    ∷ record {
+      number = 5;
+      given = pos (readBlock (sizes 16 16) (split 0x10) 0x4000) ∷ pos (readBlock (sizes 16 16) (split 0x20) 0x4000) ∷ [];
+      said = pos 5 ∷ pos 2 ∷ [];
+    }
+    ∷ record {
+      number = 6;
+      given = pos (pointerOf (0x98 + 256 * 0x2C) .block) ∷ pos (pointerOf (0x98 + 256 * 0x2C) .start) ∷ [];
+      said = pos 1 ∷ pos 0x1930 ∷ [];
+    }
+    ∷ record {
+      number = 7;
+      given = pos (pointerOf (0xFF + 256 * 0xFF) .block) ∷ pos (pointerOf (0xFF + 256 * 0xFF) .start) ∷ [];
+      said = pos 7 ∷ pos 0x3FF7 ∷ [];
+    }
+    ∷ record {
+      number = 8;
+      given = pos (pixelPlace (pointerOf 0x3EE0) 71) ∷ pos (pixelPlace (pointerOf 0x3EE0) 72) ∷ [];
+      said = pos (1 * 16384 + 0x3FF8) ∷ pos (1 * 16384 + 0x0000) ∷ [];
+    }
+    ∷ record { number = 9; given = pos (tablePlace 0x99) ∷ []; said = pos (4 * 16384 + 0x3200) ∷ [] }
+    ∷ record { number = 10; given = pos (entryOf 0xFF 1) ∷ []; said = pos 0 ∷ [] }
+    ∷ record {
+      number = 12;
+      given =
+          pos (drawnByte 0x40 0xA5) ∷ pos (drawnByte 0xC0 0xA5) ∷ pos (drawnByte 0x00 0xA5) ∷ pos (drawnByte 0x80 0xA5) ∷ pos (doubledByte 0xA5 0)
+          ∷ pos (doubledByte 0xA5 1)
+          ∷ [];
+      said = pos 0xA5 ∷ pos 0x5A ∷ pos 0x00 ∷ pos 0xFF ∷ pos 0xCC ∷ pos 0x33 ∷ [];
+    }
+    ∷ record {
+      number = 14;
+      given = rollOf 255 0 ∷ rollOf 0 255 ∷ rollOf 0 128 ∷ [];
+      said = pos 1 ∷ (pos 0 -ℤ pos 1) ∷ (pos 0 -ℤ pos 128) ∷ [];
+    }
+    ∷ record {
+      number = 15;
+      given = pos (readBlock (sizes 16 16) (split 0x00) 0xFFFF) ∷ pos (writeBlock (sizes 16 16) (split 0x00) 0xFFFF) ∷ pos (placeOf 0xFFFF) ∷ [];
+      said = pos 7 ∷ pos 7 ∷ pos 0x3FFF ∷ [];
+    }
+    ∷ []
+
+-- every case of a list holds
+abbrev pub Hold : List Case → Type 0
+Hold [] = Unit {0}
+Hold (c ∷ cs) = (c .given ≡ c .said) × Hold cs
+
+pub bench : Hold cases
+unfolding
+    bankOf
+    placeOf
+    lockWeight
+    locked
+    expansion
+    mapWrite
+    mapRead
+    readBlock
+    writeBlock
+    tablePlace
+    entryOf
+    pointerOf
+    pixelPlace
+    drawnByte
+    pixelOf
+    digits
+    byteOf
+    doubledByte
+    nearest
+    rollOf
+bench = (refl, (refl, (refl, (refl, (refl, (refl, (refl, (refl, (refl, (refl, (refl, (refl, (refl, tt)))))))))))))

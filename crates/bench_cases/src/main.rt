@@ -1,0 +1,122 @@
+// Runs the bench cases of document 01 through the public functions and prints what they give, in hex.
+use paging::Paging;
+use paging::Sizes;
+use scanline::Pointer;
+
+fn text(label: &[u8]) {
+    io::write_all(1, label);
+}
+
+// A space and a number.
+fn number(n: u64, width: usize) {
+    text(b" ");
+    io::print_hex(1, n, width);
+}
+
+fn block(n: u8) {
+    number(n as u64, 2);
+}
+
+// The read block and the write block of a map byte that is not locked.
+fn map_case(label: &[u8], internal: u8, total: u8, map: u8) {
+    let sizes = Sizes { internal, total };
+    text(label);
+    block(paging::map_read(sizes, false, map));
+    block(paging::map_write(sizes, map));
+    text(b"\n");
+}
+
+// The blocks and the place of an address, internal 16 and total 16.
+fn address_case(label: &[u8], lock: u8, address: u16) {
+    let sizes = Sizes {
+        internal: 16,
+        total: 16,
+    };
+    let p = Paging {
+        maps: [0x80, 0x25, 0x98, 0x87],
+        lock,
+    };
+    text(label);
+    block(p.read_block(sizes, address));
+    block(p.write_block(sizes, address));
+    number(paging::place(address) as u64, 4);
+    text(b"\n");
+}
+
+// A pointer word read, and made again.
+fn pointer_case(label: &[u8], word: u16) {
+    let p = scanline::read_pointer(word);
+    let made = scanline::make_pointer(p);
+    text(label);
+    block(p.block);
+    number(p.start as u64, 4);
+    number(made.word as u64, 4);
+    block(made.refusal);
+    text(b"\n");
+}
+
+// The places of two pixel bytes of a pointer word.
+fn pixel_case(label: &[u8], word: u16, i: u8) {
+    let p = scanline::read_pointer(word);
+    text(label);
+    number(scanline::pixel_place(p, i) as u64, 5);
+    text(b"\n");
+}
+
+fn drawn_case(label: &[u8], control: u8, byte: u8) {
+    text(label);
+    block(scanline::drawn_byte(control, byte));
+    text(b"\n");
+}
+
+// A roll, held to the number that document 01 says.
+fn roll_case(label: &[u8], old: u8, new: u8, said: i8) {
+    text(label);
+    if scanline::roll(old, new) == said {
+        text(b" as said\n");
+    } else {
+        text(b" not as said\n");
+    }
+}
+
+// Pointers that are refused with 3.
+fn refused_case(label: &[u8], at: u8, start: u16) {
+    let made = scanline::make_pointer(Pointer { block: at, start });
+    text(label);
+    number(made.word as u64, 4);
+    block(made.refusal);
+    text(b"\n");
+}
+
+fn main() {
+    map_case(b"P1", 16, 16, 0x98);
+    map_case(b"P2", 32, 32, 0x98);
+    map_case(b"P3 A7", 32, 40, 0xa7);
+    map_case(b"P3 A8", 32, 40, 0xa8);
+    address_case(b"P4", 0x00, 0x4000);
+    address_case(b"P5 lock 10", 0x10, 0x4000);
+    address_case(b"P5 lock 20", 0x20, 0x4000);
+    pointer_case(b"P6", 0x2c98);
+    pointer_case(b"P7", 0xffff);
+    pixel_case(b"P8 byte 71", 0x3ee0, 71);
+    pixel_case(b"P8 byte 72", 0x3ee0, 72);
+    text(b"P9");
+    number(scanline::table_place(0x99) as u64, 5);
+    text(b"\nP10");
+    block(scanline::entry(0xff, 1));
+    text(b"\n");
+    drawn_case(b"P12 on", 0x40, 0xa5);
+    drawn_case(b"P12 reverse", 0xc0, 0xa5);
+    drawn_case(b"P12 off", 0x00, 0xa5);
+    drawn_case(b"P12 off and reverse", 0x80, 0xa5);
+    text(b"P12 widened");
+    number(scanline::doubled(0xa5) as u64, 4);
+    text(b"\n");
+    roll_case(b"P14 255 to 0 is 1", 255, 0, 1);
+    roll_case(b"P14 0 to 255 is -1", 0, 255, -1);
+    roll_case(b"P14 0 to 128 is -128", 0, 128, -128);
+    address_case(b"FFFF", 0x00, 0xffff);
+    refused_case(b"block over 7", 8, 0);
+    refused_case(b"start over 16,383", 0, 16384);
+    refused_case(b"bit 3 of start", 0, 8);
+}

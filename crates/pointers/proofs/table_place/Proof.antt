@@ -1,0 +1,28 @@
+-- `table_place` gives `tablePlace`: the same operations in the same order.
+use borrow.Author.Needs.{needs}
+use Rattle.pointers.specs.Pointers.{tablePlace}
+use Rattle.pointers.proofs.table_place.Statement.{statement}
+use Rattle.pointers.proofs.table_place.Tie as tie
+
+cast-result : tie.Need-cast-result
+cast-result c = search needs
+
+mul-result : tie.Need-mul-result
+mul-result c = search needs
+
+cast-result-2 : tie.Need-cast-result-2
+cast-result-2 c = search needs
+
+mul-result-2 : tie.Need-mul-result-2
+mul-result-2 c = search needs
+
+add-result : tie.Need-add-result
+add-result c = search needs
+
+returns : tie.Need-returns
+unfolding tablePlace
+returns c = search needs
+
+pub table-place-spec : {M : Type 1} → statement M
+table-place-spec =
+    tie.close (tie.spec cast-result mul-result cast-result-2 mul-result-2 add-result returns)

@@ -1,0 +1,4 @@
+pub mod Changes
+pub mod Packed
+pub mod Pixels
+pub mod Touches

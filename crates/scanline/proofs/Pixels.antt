@@ -1,0 +1,93 @@
+-- Laws of the places of a line's 90 pixel bytes: where they lie, and a test for them with no search.
+use Prim.Native.Nat.{ℕ, _+_, _-_, _*_, _/_, _%_, _≤_, _<_}
+use mathlib.Core.Path.{_≡_, refl, ap, sym}
+use mathlib.Core.Bool.{Bool, true, false}
+use native.Mathlib.Omega.{arith}
+use borrow.Author.Tests.{ltb-true, ltb-false, eq-eqb, ne-eqb}
+use lib.Dec.{eqb, ltb}
+use Rattle.lineset.proofs.Any.{any-none, any-some}
+use Rattle.pointers.specs.Pointers.{pointerOf}
+use Rattle.scanline.specs.Drawing.{pixelPlace, pixelTouched}
+use Rattle.pointers.specs.declared.Pointer.{Pointer}
+
+-- a start lies in its block, and a pixel byte in standard RAM
+pub start-lt : (w : ℕ) → pointerOf w .start < 16384
+unfolding pointerOf
+start-lt w = omega arith
+
+pub pixel-place-lt : (w i : ℕ) → w < 65536 → pixelPlace (pointerOf w) i < 131072
+unfolding pixelPlace pointerOf
+pixel-place-lt w i h = omega arith
+
+-- the way from a start to a place, round its block: the ways that are below 720 and eight times a number are those of pixel bytes
+abbrev gap : ℕ → ℕ → ℕ
+gap start at = (at % 16384 + 16384 - start) % 16384
+
+gap-of : (start block at i : ℕ) → start < 16384 → i < 90 → at ≡ block * 16384 + (start + 8 * i) % 16384 → gap start at ≡ 8 * i
+gap-of start block at i s h e = omega arith
+
+at-gap :
+    (start block at : ℕ) →
+    start < 16384 →
+    at / 16384 ≡ block →
+    gap start at % 8 ≡ 0 →
+    at ≡ block * 16384 + (start + 8 * (gap start at / 8)) % 16384
+at-gap start block at s b g = omega arith
+
+-- the places of the pixel bytes are the only ones touched
+touched-none : (w at : ℕ) → ((i : ℕ) → i < 90 → at ≡ pixelPlace (pointerOf w) i → ⊥) → pixelTouched w at ≡ false
+unfolding pixelTouched
+touched-none w at h =
+    any-none (λ (i : ℕ). eqb at (pixelPlace (pointerOf w) i)) 0 90
+    (λ i lo hi. ne-eqb at (pixelPlace (pointerOf w) i) (h i (omega arith)))
+
+-- none lies past standard RAM
+pub pixels-below : (w at : ℕ) → w < 65536 → 131072 ≤ at → pixelTouched w at ≡ false
+pixels-below w at h p =
+    touched-none w at (λ (i : ℕ) (l : i < 90) (z : at ≡ pixelPlace (pointerOf w) i). omega (arith, pixel-place-lt w i h))
+
+-- the test of a place, one by one: another block, no multiple of eight, and the length of the way
+pub other-block : (w at : ℕ) (p : Pointer) → p ≡ pointerOf w → (at / 16384 ≡ p .block → ⊥) → pixelTouched w at ≡ false
+unfolding pixelPlace
+other-block w at p e ne =
+    touched-none w at (λ (i : ℕ) (h : i < 90) (z : at ≡ pixelPlace (pointerOf w) i). let f : p .block ≡ pointerOf w .block = ap (λ (q : Pointer). q .block) e in ne (omega arith))
+
+pub other-gap :
+    (w at : ℕ) (p : Pointer) → p ≡ pointerOf w → (gap (p .start) at % 8 ≡ 0 → ⊥) → pixelTouched w at ≡ false
+unfolding pixelPlace
+other-gap w at p e ne =
+    touched-none w at
+    (λ (i : ℕ) (h : i < 90) (z : at ≡ pixelPlace (pointerOf w) i).
+    let f : p .start ≡ pointerOf w .start = ap (λ (q : Pointer). q .start) e in
+    let g = gap-of (pointerOf w .start) (pointerOf w .block) at i (start-lt w) h z in
+    ne (rw f (rw g (omega arith))))
+
+module _ (w at : ℕ) (b : at / 16384 ≡ pointerOf w .block) (g : gap (pointerOf w .start) at % 8 ≡ 0) where
+  near : gap (pointerOf w .start) at < 720 → pixelTouched w at ≡ true
+  unfolding pixelTouched pixelPlace
+  near h =
+      any-some (λ (i : ℕ). eqb at (pixelPlace (pointerOf w) i)) 0 90 (gap (pointerOf w .start) at / 8)
+      (omega arith)
+      (omega arith)
+      (eq-eqb at (pixelPlace (pointerOf w) (gap (pointerOf w .start) at / 8)) (at-gap (pointerOf w .start) (pointerOf w .block) at (start-lt w) b g))
+
+  far : 720 ≤ gap (pointerOf w .start) at → pixelTouched w at ≡ false
+  unfolding pixelPlace
+  far h =
+      touched-none w at
+      (λ (i : ℕ) (l : i < 90) (z : at ≡ pixelPlace (pointerOf w) i). omega (arith, gap-of (pointerOf w .start) (pointerOf w .block) at i (start-lt w) l z))
+
+  way : ltb (gap (pointerOf w .start) at) 720 ≡ pixelTouched w at
+  way = go (ltb (gap (pointerOf w .start) at) 720) refl
+    where
+      go : (t : Bool) → ltb (gap (pointerOf w .start) at) 720 ≡ t → t ≡ pixelTouched w at
+      go true e = sym (near (ltb-true (gap (pointerOf w .start) at) 720 e))
+      go false e = sym (far (ltb-false (gap (pointerOf w .start) at) 720 e))
+
+pub within :
+    (w at : ℕ) (p : Pointer) →
+    p ≡ pointerOf w →
+    at / 16384 ≡ p .block →
+    gap (p .start) at % 8 ≡ 0 →
+    ltb (gap (p .start) at) 720 ≡ pixelTouched w at
+within w at p e = rw e (way w at)
