@@ -17,18 +17,18 @@ use Rattle.scanline.specs.Drawing.{View, pixelPlace, drawnByte, wordAt, 
 same : (n : ℕ) → eqb n n ≡ true
 same n = eq-eqb n n refl
 
--- nothing changes between a moment and itself
-pub changed-self : (v : View) (line : ℕ) → changed v v line ≡ false
-unfolding changed ramChanged
-changed-self v line =
-    rw (
-      same (v .table),
-      same (v .top),
-      same (v .control / 64),
-      same (wordAt v line),
-    )
+-- with the same F5, F6 and RAM no pointer and no byte differs
+pub ram-same : (v : View) (control line : ℕ) → ramChanged v (record { table = v .table; top = v .top; control = control; ram = v .ram }) line ≡ false
+unfolding ramChanged wordAt
+ram-same v control line =
+    rw (same (pointerWord (v .ram) (v .table) (v .top) line))
     (any-none (λ (i : ℕ). not (eqb (getD (v .ram) (pixelAt v line i) 0) (getD (v .ram) (pixelAt v line i) 0))) 0 90
     (λ i lo hi. rw (same (getD (v .ram) (pixelAt v line i) 0))))
+
+-- nothing changes between a moment and itself
+pub changed-self : (v : View) (line : ℕ) → changed v v line ≡ false
+unfolding changed
+changed-self v line = rw (same (v .table), same (v .top), same (v .control / 64)) (ram-same v (v .control) line)
 
 -- two words of which a byte is the same differ if the other byte does
 word-differs :

@@ -1,0 +1,4 @@
+pub mod Marks
+pub mod Power
+pub mod Record
+pub mod Registers
