@@ -8,9 +8,9 @@ use mir.Val.{boolByte}
 use Rattle.paging.specs.Memory.{readPlace, writePlace, keyboardPlace}
 use Rattle.board.specs.Marks.{marked}
 use Rattle.board.specs.declared.record.Board.{Board}
-use Rattle.steps.specs.declared.Answer.{Answer}
-use Rattle.steps.specs.declared.Step.{Step}
-use Rattle.steps.specs.declared.Step.the-variants.{Fetch, Read, Write, PortIn, PortOut, Scan, Key, DiscLine, ExternalLine}
+use Rattle.steps.specs.declared.answers.Answer.{Answer}
+use Rattle.steps.specs.declared.answers.Step.{Step}
+use Rattle.steps.specs.declared.answers.Step.the-variants.{Fetch, Read, Write, PortIn, PortOut, Scan, Key, DiscLine, ExternalLine}
 use Rattle.board.specs.Record.{good, nmiOf, intOf, statusByte, withClock, withBoot, withDisc, withExternal, withRoute}
 use Rattle.board.specs.Registers.{forwardedIn, forwardedOut, takenIn, takenOut, written, scanned}
 

@@ -2,6 +2,7 @@
 ghost use mathlib.Core.Path.{_≡_};
 ghost use Rattle.steps.specs.Steps.{ownAnswer};
 use crate::answers::Answer;
+use crate::answers::Step;
 use crate::answers::accepted;
 use board::Board;
 

@@ -4,6 +4,7 @@ ghost use Prim.Native.Nat.{_≤_};
 ghost use lib.ListN.{length, set};
 ghost use Rattle.steps.specs.Steps.{ownAnswer, ownRam};
 use crate::answers::Answer;
+use crate::answers::Step;
 use crate::answers::accepted;
 use crate::answers::refused;
 use board::Board;

@@ -1,9 +1,11 @@
-// What channels in and out, the scan and the two lines answer once record and buffers are found good.
+// What channels in and out answer once record and buffers are found good.
 ghost use mathlib.Core.Path.{_≡_};
 ghost use Prim.Native.Nat.{_≤_};
 ghost use Rattle.board.specs.Record.{statusByte};
+ghost use Rattle.board.specs.Registers.{forwardedOut};
 ghost use Rattle.steps.specs.Steps.{ownAnswer};
 use crate::answers::Answer;
+use crate::answers::Step;
 use crate::answers::accepted;
 use crate::answers::refused;
 use board::Board;
@@ -13,10 +15,22 @@ fn status(b: Board) -> u8
     requires { ⌜ b .clock .counter ≤ 15 ⌝ }
     ensures { λ r. ⌜ r ≡ statusByte b ⌝ }
 {
-    let flyback: u8 = if b.clock.beam < 26 { 64 } else { 0 };
-    let disc: u8 = if b.disc.line == 1 { 32 } else { 0 };
-    let rate: u8 = if b.rate == 50 { 16 } else { 0 };
-    flyback + (disc + (rate + b.clock.counter))
+    let flyback = (b.clock.beam < 26) as u8;
+    let disc = (b.disc.line == 1) as u8;
+    let rate = (b.rate == 50) as u8;
+    flyback * 64 + (disc * 32 + (rate * 16 + b.clock.counter))
+}
+
+// The channels out that are passed on to the host.
+fn host_takes(port: u8) -> bool
+    ensures { λ r. ⌜ r ≡ forwardedOut port ⌝ }
+{
+    match port {
+        0x01 => true,
+        0x80..=0xef => true,
+        0xfc..=0xfd => true,
+        _ => false,
+    }
 }
 
 pub(crate) fn take_port_in(b: Board, port: u8, ram: &[u8], boot: &[u8]) -> Answer
@@ -24,6 +38,7 @@ pub(crate) fn take_port_in(b: Board, port: u8, ram: &[u8], boot: &[u8]) -> Answe
     ensures { λ r. ⌜ r ≡ ownAnswer b (now (ram .entry)) (now (boot .entry)) (Step.PortIn port) ⌝ }
 {
     match port {
+        0x00 => accepted(b, 0, true),
         0xf4 => {
             let byte = status(b);
             let mut after = b;
@@ -31,17 +46,25 @@ pub(crate) fn take_port_in(b: Board, port: u8, ram: &[u8], boot: &[u8]) -> Answe
             accepted(after, byte, false)
         }
         0xf8 => accepted(b, status(b), false),
-        0x00 | 0x01 | 0x80..=0xef | 0xfc | 0xfd => accepted(b, 0, true),
-        _ => refused(b, 5),
+        _ => {
+            if host_takes(port) {
+                accepted(b, 0, true)
+            } else {
+                refused(b, 5)
+            }
+        }
     }
 }
 
 pub(crate) fn take_port_out(b: Board, port: u8, value: u8, ram: &[u8], boot: &[u8]) -> Answer
     ensures { λ r. ⌜ r ≡ ownAnswer b (now (ram .entry)) (now (boot .entry)) (Step.PortOut port value) ⌝ }
 {
+    if host_takes(port) {
+        return accepted(b, 0, true);
+    }
     match port {
-        0xf0..=0xf8 | 0xfa | 0xfb => accepted(b.out(port, value), 0, false),
-        0x01 | 0x80..=0xef | 0xfc | 0xfd => accepted(b, 0, true),
+        0xf0..=0xf8 => accepted(b.out(port, value), 0, false),
+        0xfa..=0xfb => accepted(b, 0, false),
         _ => refused(b, 5),
     }
 }

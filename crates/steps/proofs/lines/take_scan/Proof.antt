@@ -1,0 +1,37 @@
+-- The record is moved and nothing is marked.
+-- Assumes nothing.
+use mathlib.Core.Path.{_≡_, refl, sym, _∙_, ap}
+use denote.Ref.{now}
+use Prim.Native.Nat.{ℕ}
+use lib.ListN.{getD}
+use mir.Val.{Fits}
+use mir.Syntax.{w64}
+use Rattle.lineset.proofs.Sets.{Words}
+use Rattle.steps.specs.declared.answers.Step.the-variants.{Scan}
+use Rattle.steps.specs.Steps.{moved, stored, stepByte, forwardedStep, ownRefusal}
+use Rattle.steps.proofs.Answering.{plain-own}
+use borrow.Author.Needs.{needs}
+use Rattle.steps.proofs.lines.take_scan.Statement.{statement}
+use Rattle.steps.proofs.lines.take_scan.Tie as tie
+
+fits : (s : tie.Start) (j : ℕ) → Fits w64 (getD (s .args .b .dirty .words) j 0)
+fits s j = search needs
+
+words : (s : tie.Start) → Words (s .args .b .dirty)
+words s = record { four = search needs; small = λ j. fits s j .fits }
+
+scan-requires : tie.Need-scan-requires
+scan-requires c κs = search needs
+
+accepted-requires : tie.Need-accepted-requires
+accepted-requires c κs = search needs
+
+returns : tie.Need-returns
+unfolding moved stored stepByte forwardedStep ownRefusal
+returns c =
+    let s = c .before .before .before .before in
+    c .accepted .ensures
+    ∙ plain-own (s .args .b) (now (s .args .ram)) (now (s .args .boot)) Scan _ _ _ refl refl (words s) refl refl refl (c .before .scan .ensures) refl refl
+
+pub take-scan-spec : {M : Type 1} → statement M
+take-scan-spec = tie.close (tie.spec scan-requires accepted-requires returns)
