@@ -1,0 +1,4 @@
+pub mod Accepted
+pub mod Keeping
+pub mod Model
+pub mod Ticking
