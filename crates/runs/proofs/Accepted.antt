@@ -20,9 +20,9 @@ use Rattle.board.specs.Marks.{marked}
 use Rattle.board.proofs.Good.{Parts, good-parts, parts-good, both}
 use Rattle.steps.specs.declared.answers.Step.{Step}
 use Rattle.steps.specs.Steps.{moved, stored, settled, lentRefusal, ownRefusal, stepRefusal, stepBoard, stepAnswer}
-use Rattle.steps.proofs.Answering.{lent-boot, lent-good}
+use Rattle.steps.proofs.Answering.{lent-boot, lent-good, plain}
 use Rattle.runs.proofs.Model.{accepted-board, refused-board}
-use Rattle.runs.proofs.Keeping.{Time, time-of, of-time, moved-time, Ranges, ranges-of, moved-ranges, settled-disc, Flags, flags-of, of-flags, moved-flags, moved-sizes, moved-rate, marks-shown, inside-all}
+use Rattle.runs.proofs.Keeping.{Time, time-of, of-time, moved-time, Ranges, ranges-of, moved-ranges, settled-disc, Flags, flags-of, of-flags, moved-flags, moved-sizes, moved-rate, moved-dirty, marks-shown, inside-all}
 
 -- neither record and buffers nor the kind itself refuse an accepted step
 module _ (b : Board) (ram boot : List ℕ) (s : Step) (e : stepRefusal b ram boot s ≡ 0) where
@@ -53,7 +53,7 @@ module _ (b : Board) (ram : List ℕ) (n : ℕ) (s : Step) (g : good b ≡ true)
         time = unfold goodTime in of-time (moved b s) (moved-time b n s l o (time-of b (p .time)));
         disc = settled-disc (stepBoard b ram s) (moved-ranges b s (ranges-of (b .disc) (p .disc)));
         flags = unfold goodFlags in of-flags (moved b s) (moved-flags b s (flags-of b (p .flags)));
-        dirty = rw (moved-rate b s) (marks-shown b (moved b s) ram (stored b s ram) (p .dirty))
+        dirty = rw (moved-rate b s) (marks-shown b (moved b s) ram (stored b s ram) (p .dirty));
       })
 
 -- a step keeps the record good, accepted or not
@@ -107,9 +107,38 @@ module _ (sizes : Sizes) (rate : ℕ) (paging : Paging) (table top : ℕ) (e : s
         time = rw (frame-pos (eqb rate 50));
         disc = refl;
         flags = refl;
-        dirty = inside-all (shownSet rate) rate (λ L l m. sym (shown-member L l) ∙ m)
+        dirty = inside-all (shownSet rate) rate (λ L l m. sym (shown-member L l) ∙ m);
       })
 
   pub start-words : Words (freshBoard sizes rate paging table top .dirty)
   unfolding freshBoard shownSet
   start-words = words-set _
+
+-- sizes and rate stay over any step
+module _ (b : Board) (ram boot : List ℕ) (s : Step) where
+  kept : (t : Bool) → eqb (stepRefusal b ram boot s) 0 ≡ t → (stepAnswer b ram boot s .board .sizes ≡ b .sizes) × (stepAnswer b ram boot s .board .rate ≡ b .rate)
+  unfolding settled stepBoard marked
+  kept true f =
+      let e = accepted-board b ram boot s (eqb-true (stepRefusal b ram boot s) 0 f) in
+      (ap (λ (c : Board). c .sizes) e ∙ moved-sizes b s, ap (λ (c : Board). c .rate) e ∙ moved-rate b s)
+  kept false f =
+      let e = refused-board b ram boot s (eqb-false (stepRefusal b ram boot s) 0 f) in
+      (ap (λ (c : Board). c .sizes) e, ap (λ (c : Board). c .rate) e)
+
+  pub step-sizes : stepAnswer b ram boot s .board .sizes ≡ b .sizes
+  step-sizes = kept (eqb (stepRefusal b ram boot s) 0) refl .0
+
+  pub step-rate : stepAnswer b ram boot s .board .rate ≡ b .rate
+  step-rate = kept (eqb (stepRefusal b ram boot s) 0) refl .1
+
+  -- a step that changes neither RAM nor F5 to F7 marks nothing
+  pub adds-none : Words (b .dirty) → stored b s ram ≡ ram → moved b s .video ≡ b .video → stepAnswer b ram boot s .board .dirty ≡ b .dirty
+  unfolding settled
+  adds-none w e v = go (eqb (stepRefusal b ram boot s) 0) refl
+    where
+      go : (t : Bool) → eqb (stepRefusal b ram boot s) 0 ≡ t → stepAnswer b ram boot s .board .dirty ≡ b .dirty
+      go true f =
+          ap (λ (c : Board). c .dirty) (accepted-board b ram boot s (eqb-true (stepRefusal b ram boot s) 0 f))
+          ∙ ap (λ (c : Board). c .dirty) (plain b ram boot s e w (moved-dirty b s) (moved-rate b s) v)
+          ∙ moved-dirty b s
+      go false f = ap (λ (c : Board). c .dirty) (refused-board b ram boot s (eqb-false (stepRefusal b ram boot s) 0 f))

@@ -65,6 +65,7 @@ beam-next rate beam = go (ltb (beam + 1) (cond (eqb rate 50) 312 260)) refl
     pos : (t : Bool) → 0 < cond t 312 260
     pos true = omega arith
     pos false = omega arith
+
     go : (t : Bool) → ltb (beam + 1) (cond (eqb rate 50) 312 260) ≡ t → cond t (beam + 1) 0 < cond (eqb rate 50) 312 260
     go true e = ltb-true _ _ e
     go false e = pos (eqb rate 50)
@@ -77,6 +78,7 @@ fetched b n address l e h = go (eqb (b .boot .mode) 1) refl
     at : (t : Bool) → leb n (b .boot .at) ≡ t → _≡_ {A = ℕ} (cond t 4 0) 0 → b .boot .at + 1 ≤ 1024
     at true f g = absurd (omega arith)
     at false f g = let k = leb-false n (b .boot .at) f in omega arith
+
     go : (t : Bool) → eqb (b .boot .mode) 1 ≡ t → cond t (b .boot .at + 1) (b .boot .at) ≤ 1024
     go true f = at (leb n (b .boot .at)) refl (rw f at e)
     go false f = h
@@ -91,13 +93,13 @@ moved-time b n (PortOut port value) l e t = record {
   counter = cond-le (eqb (command port value) 1) (omega arith) (t .counter);
   beam = t .beam;
   mode = cond-le (eqb (command port value) 0) (omega arith) (cond-le (eqb (command port value) 1) (omega arith) (t .mode));
-  at = cond-le (eqb (command port value) 1) (omega arith) (t .at)
+  at = cond-le (eqb (command port value) 1) (omega arith) (t .at);
 }
 moved-time b n Scan l e t = record {
   counter = cond-le (ticks (nextBeam (b .rate) (b .clock .beam))) {m = min 15 (b .clock .counter + 1)} (omega arith) (t .counter);
   beam = beam-next (b .rate) (b .clock .beam);
   mode = t .mode;
-  at = t .at
+  at = t .at;
 }
 moved-time b n (Key offset value) l e t = t
 moved-time b n (DiscLine on) l e t = record { counter = t .counter; beam = t .beam; mode = t .mode; at = t .at }
@@ -131,7 +133,7 @@ moved-ranges b (PortOut port value) r =
       route = cond-le (eqb n 1) (omega arith) (cond-le (eqb n 2) (omega arith) (cond-le (eqb n 3) (omega arith) (cond-le (eqb n 4) (omega arith) (r .route))));
       line = r .line;
       terminal = cond-le (eqb n 1) (omega arith) (cond-le (eqb n 5) (omega arith) (cond-le (eqb n 6) (omega arith) (r .terminal)));
-      motor = cond-le (eqb n 1) (omega arith) (cond-le (eqb n 9) (omega arith) (cond-le (eqb n 10) (omega arith) (r .motor)))
+      motor = cond-le (eqb n 1) (omega arith) (cond-le (eqb n 9) (omega arith) (cond-le (eqb n 10) (omega arith) (r .motor)));
     }
 moved-ranges b Scan r = r
 moved-ranges b (Key offset value) r = r
@@ -179,7 +181,7 @@ moved-flags b (PortOut port value) f =
     record {
       external = f .external;
       driven = cond-le (eqb n 1) (omega arith) (cond-le (eqb n 7) (omega arith) (cond-le (eqb n 8) (omega arith) (f .driven)));
-      bleeper = cond-le (eqb n 1) (omega arith) (cond-le (eqb n 11) (omega arith) (cond-le (eqb n 12) (omega arith) (f .bleeper)))
+      bleeper = cond-le (eqb n 1) (omega arith) (cond-le (eqb n 11) (omega arith) (cond-le (eqb n 12) (omega arith) (f .bleeper)));
     }
 moved-flags b Scan f = record { external = f .external; driven = f .driven; bleeper = f .bleeper }
 moved-flags b (Key offset value) f = f
@@ -211,6 +213,19 @@ moved-rate b (Key offset value) = refl
 moved-rate b (DiscLine on) = refl
 moved-rate b (ExternalLine on) = refl
 
+-- the dirty lines change by marking alone
+pub moved-dirty : (b : Board) (s : Step) → moved b s .dirty ≡ b .dirty
+unfolding moved written
+moved-dirty b (Fetch address) = refl
+moved-dirty b (Read address) = refl
+moved-dirty b (Write address value) = refl
+moved-dirty b (PortIn port) = refl
+moved-dirty b (PortOut port value) = refl
+moved-dirty b Scan = refl
+moved-dirty b (Key offset value) = refl
+moved-dirty b (DiscLine on) = refl
+moved-dirty b (ExternalLine on) = refl
+
 -- a set is inside the shown lines exactly if each line of it is shown
 pub inside-at : (s : LineSet) (rate : ℕ) → inside s (shownSet rate) ≡ true → (L : ℕ) → L < 256 → member s L ≡ true → ltb L (shownLines rate) ≡ true
 unfolding inside shownSet
@@ -240,6 +255,7 @@ marks-shown b c ram ram′ e = inside-all _ (b .rate) line
     either true y z f g = g refl
     either false true z f g = refl
     either false false z f g = f
+
     line : (L : ℕ) → L < 256
         → member (setOf (λ (L : ℕ). member (b .dirty) L || (ltb L (shownLines (b .rate)) && changed (viewOf b ram) (viewOf c ram′) L))) L ≡ true
         → ltb L (shownLines (b .rate)) ≡ true

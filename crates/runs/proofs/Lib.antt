@@ -1,4 +1,9 @@
 pub mod Accepted
 pub mod Keeping
+pub mod Mirroring
 pub mod Model
+pub mod Painting
+pub mod Redrawing
+pub mod Standing
 pub mod Ticking
+pub mod Whole
