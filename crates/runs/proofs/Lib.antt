@@ -1,4 +1,5 @@
 pub mod Accepted
+pub mod Drawing
 pub mod Keeping
 pub mod Mirroring
 pub mod Model

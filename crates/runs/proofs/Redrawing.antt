@@ -70,7 +70,7 @@ refresh-tabled : (m : Machine) → good (m .board) ≡ true
 unfolding pictureRefusal refreshRefused
 refresh-tabled m g = rw g
 
-accepted-length : (m : Machine) → refreshRefused (mirror (m .board) (m .ram)) (length (m .picture)) ≡ 0 → length (m .picture) ≡ 23040
+pub accepted-length : (m : Machine) → refreshRefused (mirror (m .board) (m .ram)) (length (m .picture)) ≡ 0 → length (m .picture) ≡ 23040
 unfolding refreshRefused
 accepted-length m e = eqb-true (length (m .picture)) 23040 (go (eqb (length (m .ram)) (m .board .sizes .total * 16384)) (eqb (length (m .picture)) 23040) e)
   where
@@ -80,7 +80,7 @@ accepted-length m e = eqb-true (length (m .picture)) 23040 (go (eqb (length (m .
     go false u f = absurd (omega arith)
 
 module _ (alone : Bool) (start : List ℕ) (m : Machine) (h : Holds alone start m) where
-  same : pictureRefusal (m .board) (length (m .ram)) (length (m .picture)) ≡ refreshRefused (mirror (m .board) (m .ram)) (length (m .picture))
+  pub same : pictureRefusal (m .board) (length (m .ram)) (length (m .picture)) ≡ refreshRefused (mirror (m .board) (m .ram)) (length (m .picture))
   same = refresh-tabled m (h .good-board)
 
   -- the picture that is left
@@ -89,7 +89,7 @@ module _ (alone : Bool) (start : List ℕ) (m : Machine) (h : Holds alone start 
   unfolding refreshPicture
   left = rw same
 
-  left-accepted : refreshRefused (mirror (m .board) (m .ram)) (length (m .picture)) ≡ 0
+  pub left-accepted : refreshRefused (mirror (m .board) (m .ram)) (length (m .picture)) ≡ 0
       → refreshPicture (m .board) (m .ram) (m .picture) ≡ painted (member (m .board .dirty)) (viewOf (m .board) (m .ram)) (m .picture)
   left-accepted e = left ∙ rw e
 
@@ -114,7 +114,7 @@ module _ (alone : Bool) (start : List ℕ) (m : Machine) (h : Holds alone start 
   returned false e = (rw (same, e), rw (same, e))
 
   -- each shown line after an accepted refresh
-  all-shown : alone ≡ true → refreshRefused (mirror (m .board) (m .ram)) (length (m .picture)) ≡ 0 → (L : ℕ) → L < shownLines (m .board .rate) → (i : ℕ) → i < 90
+  pub all-shown : alone ≡ true → refreshRefused (mirror (m .board) (m .ram)) (length (m .picture)) ≡ 0 → (L : ℕ) → L < shownLines (m .board .rate) → (i : ℕ) → i < 90
       → getD (refreshPicture (m .board) (m .ram) (m .picture)) (90 * L + i) 0 ≡ drawn (viewOf (m .board) (m .ram)) L i
   all-shown u e L l i k =
       let most = shown-most (m .board .rate) in
@@ -137,7 +137,7 @@ module _ (alone : Bool) (start : List ℕ) (m : Machine) (h : Holds alone start 
   }
 
   -- what holds goes on holding
-  kept-outside : alone ≡ true → refreshRefused (mirror (m .board) (m .ram)) (length (m .picture)) ≡ 0 → (k : ℕ) → 90 * shownLines (m .board .rate) ≤ k
+  pub kept-outside : alone ≡ true → refreshRefused (mirror (m .board) (m .ram)) (length (m .picture)) ≡ 0 → (k : ℕ) → 90 * shownLines (m .board .rate) ≤ k
       → getD (refreshPicture (m .board) (m .ram) (m .picture)) k 0 ≡ getD start k 0
   kept-outside u e k l = ap (λ (p : List ℕ). getD p k 0) (left-accepted e) ∙ go (ltb k (length (m .picture))) refl ∙ h .outside u k l
     where

@@ -66,7 +66,7 @@ claims (others picture ∷ es) alone start m h = (
 
 -- the start: every shown line is dirty, and the reference is the mirror
 module _ (sizes : Sizes) (rate : ℕ) (paging : Paging) (table top : ℕ) (ram picture : List ℕ) (e : startRefusal sizes rate ≡ 0) where
-  first-holds : Holds true picture (record { board = freshBoard sizes rate paging table top; ram = ram; picture = picture })
+  pub first-holds : Holds true picture (record { board = freshBoard sizes rate paging table top; ram = ram; picture = picture })
   unfolding freshBoard
   first-holds = record {
     good-board = start-good sizes rate paging table top e;

@@ -14,7 +14,7 @@ use Rattle.board.specs.Power.{startRefusal, started}
 use Rattle.steps.specs.declared.answers.Step.{Step}
 use Rattle.steps.specs.declared.answers.Step.the-variants.{Fetch, Read, Write, PortIn, PortOut, Scan, Key, DiscLine, ExternalLine}
 use Rattle.steps.specs.Steps.{stepAnswer, stepRam}
-use Rattle.picture.specs.Pictures.{painted, refreshAnswer, refreshPicture}
+use Rattle.picture.specs.Pictures.{painted, drawPicture, refreshAnswer, refreshPicture}
 use Rattle.runs.specs.Reference.{Reference, viewIn, begun, stepRefused, stepFed, refreshRefused, refreshFed}
 
 -- "The calls are the nine kinds of step and refresh, in any order, refused ones included. The stream may be another at each step."
@@ -100,3 +100,21 @@ WholeRuns =
     → (started sizes rate paging table top .refusal ≡ startRefusal sizes rate)
     × (startRefusal sizes rate ≡ 0
     → Claims true picture (record { board = started sizes rate paging table top .board; ram = ram; picture = picture }) (begun sizes rate paging table top ram) events)
+
+-- What a doubter asks for: after each accepted refresh of a run that nobody else disturbed, the picture is, whole, what a full draw of that
+-- moment would make of the picture at the start.
+abbrev pub Pictures : Bool → List ℕ → Machine → List Event → Type 0
+Pictures alone start m [] = Unit {0}
+Pictures alone start m (step s boot ∷ es) = Pictures alone start (stepped m s boot) es
+Pictures alone start m (refresh ∷ es) =
+    (alone ≡ true
+    → refreshAnswer (m .board) (m .ram) (m .picture) .refusal ≡ 0
+    → refreshPicture (m .board) (m .ram) (m .picture) ≡ drawPicture (m .board) (m .ram) start)
+    × Pictures alone start (redrawn m) es
+Pictures alone start m (others picture ∷ es) = Pictures false start (record { board = m .board; ram = m .ram; picture = picture }) es
+
+abbrev pub DrawnWhole : Type 0
+DrawnWhole =
+    (sizes : Sizes) (rate : ℕ) (paging : Paging) (table top : ℕ) (ram picture : List ℕ) (events : List Event)
+    → startRefusal sizes rate ≡ 0
+    → Pictures true picture (record { board = started sizes rate paging table top .board; ram = ram; picture = picture }) events
