@@ -1,0 +1,45 @@
+// The C interface.
+ghost use mathlib.Core.Path.{_≡_};
+ghost use Rattle.steps.specs.Steps.{stepAnswer, stepRam};
+ghost use Rattle.board.specs.Power.{started};
+ghost use Rattle.firmware.specs.Replies.{stepReply, startReply, asked, sizesOf, pagingOf};
+use crate::replies::powered;
+use crate::replies::replied;
+use board::Board;
+
+#[no_mangle]
+pub extern "C" fn joyce_step(
+    b: &mut Board,
+    kind: u32,
+    number: u32,
+    value: u32,
+    ram: &mut [u8],
+    boot: &[u8],
+) -> u64
+    ensures { λ r. ⌜ (r ≡ stepReply (stepAnswer (now (b .entry)) (now (ram .entry)) (now (boot .entry)) (asked kind number value))) × ((now (b .exit) ≡ stepAnswer (now (b .entry)) (now (ram .entry)) (now (boot .entry)) (asked kind number value) .board) × (now (ram .exit) ≡ stepRam (now (b .entry)) (now (ram .entry)) (now (boot .entry)) (asked kind number value))) ⌝ }
+{
+    let a = replied(*b, kind, number, value, ram, boot);
+    *b = a.board;
+    a.word
+}
+
+#[no_mangle]
+pub extern "C" fn joyce_power_on(
+    b: &mut Board,
+    internal: u8,
+    total: u8,
+    rate: u8,
+    f0: u8,
+    f1: u8,
+    f2: u8,
+    f3: u8,
+    lock: u8,
+    f5: u8,
+    f6: u8,
+) -> u64
+    ensures { λ r. ⌜ (r ≡ startReply (started (sizesOf internal total) rate (pagingOf f0 f1 f2 f3 lock) f5 f6)) × (now (b .exit) ≡ started (sizesOf internal total) rate (pagingOf f0 f1 f2 f3 lock) f5 f6 .board) ⌝ }
+{
+    let a = powered(*b, internal, total, rate, f0, f1, f2, f3, lock, f5, f6);
+    *b = a.board;
+    a.word
+}

@@ -1,0 +1,81 @@
+// The C interface of what needs no record.
+ghost use mathlib.Core.Path.{_≡_};
+ghost use lib.ListN.{length};
+ghost use Rattle.panel.specs.Roll.{rollOf};
+ghost use Rattle.panel.specs.Widen.{widenRefusal, widenedOut};
+ghost use Rattle.pointers.specs.Pointers.{pointerOf, madePointer};
+ghost use Rattle.firmware.specs.Replies.{madeReply, pointerReply, reachReply, sizesOf, pagingOf};
+use crate::replies::reply;
+use paging::Paging;
+use paging::Sizes;
+use scanline::Pointer;
+
+// One line of 90 bytes as 180, each pixel twice; the refusal number.
+#[no_mangle]
+pub extern "C" fn joyce_widen(line: &[u8], out: &mut [u8]) -> u8
+    ensures { λ r. ⌜ (r ≡ widenRefusal (length (now (line .entry))) (length (now (out .entry)))) × (now (out .exit) ≡ widenedOut (now (line .entry)) (now (out .entry))) ⌝ }
+{
+    scanline::widen(line, out)
+}
+
+// The roll of the top line, -128 to 127.
+#[no_mangle]
+pub extern "C" fn joyce_roll(old_top: u8, new_top: u8) -> i8
+    ensures { λ r. ⌜ r ≡ rollOf «old_top» «new_top» ⌝ }
+{
+    scanline::roll(old_top, new_top)
+}
+
+#[no_mangle]
+pub extern "C" fn joyce_read_pointer(word: u16) -> u64
+    ensures { λ r. ⌜ r ≡ pointerReply (pointerOf word) ⌝ }
+{
+    let p = scanline::read_pointer(word);
+    reply(p.start, 0, 0, p.block as u16)
+}
+
+// A pointer word; numbers wider than a block or a start take are refused as those over 7 and 16,383 are.
+#[no_mangle]
+pub extern "C" fn joyce_make_pointer(block: u32, start: u32) -> u64
+    ensures { λ r. ⌜ r ≡ madeReply (madePointer (record { block = block; start = start })) ⌝ }
+{
+    if block > 255 {
+        return reply(0, 0, 3, 0);
+    }
+    if start > 65535 {
+        return reply(0, 0, 3, 0);
+    }
+    let p = Pointer {
+        block: block as u8,
+        start: start as u16,
+    };
+    let made = scanline::make_pointer(p);
+    reply(made.word, 0, made.refusal, 0)
+}
+
+// Where an access lands.
+#[no_mangle]
+pub extern "C" fn joyce_reach(
+    internal: u8,
+    total: u8,
+    f0: u8,
+    f1: u8,
+    f2: u8,
+    f3: u8,
+    lock: u8,
+    address: u16,
+) -> u64
+    ensures { λ r. ⌜ r ≡ reachReply (sizesOf internal total) (pagingOf f0 f1 f2 f3 lock) address ⌝ }
+{
+    let sizes = Sizes { internal, total };
+    let p = Paging {
+        maps: [f0, f1, f2, f3],
+        lock,
+    };
+    if !sizes.allowed() {
+        return reply(0, 0, 6, 0);
+    }
+    let read = p.read_block(sizes, address) as u16;
+    let write = p.write_block(sizes, address) as u16;
+    reply(paging::place(address), 0, 0, read + 256 * write)
+}
