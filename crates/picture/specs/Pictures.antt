@@ -1,13 +1,12 @@
 -- Pictures: drawing, refreshing, the next dirty line and the first difference. Document 01, "Scan lines".
 -- A picture is 256 lines of 90 bytes, 23,040 bytes, leftmost pixel in the top bit.
-use Prim.Native.Nat.{ℕ, zero, suc, _-_, _*_, _/_, _%_}
-use mathlib.Core.Bool.{Bool, true, false, cond, not, _&&_}
+use Prim.Native.Nat.{ℕ, zero, suc, _+_, _<_, _-_, _*_, _/_, _%_}
+use mathlib.Core.Path.{_≡_}
+use mathlib.Core.Bool.{Bool, false, cond, not, _&&_}
 use mathlib.Core.List.{List, [], _∷_}
 use lib.Dec.{eqb, ltb, leb}
-use lib.ListN.{length}
-use Rattle.lineset.specs.declared.LineSet.{LineSet}
-use Rattle.lineset.specs.declared.Line.{Line}
-use Rattle.lineset.specs.declared.Line.the-variants.{At, Nothing}
+use lib.ListN.{length, getD}
+use Rattle.lineset.specs.declared.Line.the-variants.{Nothing}
 use Rattle.lineset.specs.Lines.{setOf, member, countOf, firstOf, shownLines}
 use Rattle.panel.specs.Widen.{pixelIn}
 use Rattle.scanline.specs.Drawing.{View, drawn}
@@ -93,3 +92,7 @@ firstDifference a b = firstPixel (λ (j : ℕ). not (eqb (pixelIn a j) (pixelIn 
 unfoldable pub differenceAnswer : List ℕ → List ℕ → Difference
 differenceAnswer a b =
     cond (eqb (length a) 23040 && eqb (length b) 23040) (record { place = firstDifference a b; refusal = 0 }) (record { place = Same; refusal = 2 })
+
+-- n bytes from `first` on are the same in two lists
+abbrev pub AlikeFrom : List ℕ → List ℕ → ℕ → ℕ → Type 0
+AlikeFrom a b first n = (m : ℕ) → m < n → getD a (first + m) 0 ≡ getD b (first + m) 0

@@ -35,14 +35,17 @@ pub fn entry_place(table: u8, top: u8, line: u8) -> usize
     table_place(table) + 2 * entry(top, line) as usize
 }
 
-// The pointer word of a line; a byte past the RAM's end counts as 0.
+// The pointer word of a line; a byte past the RAM's end counts as 0. A RAM of eight blocks or more holds every entry.
 pub fn pointer_word(ram: &[u8], table: u8, top: u8, line: u8) -> u16
     ensures { λ r. ⌜ r ≡ pointerWord (now (ram .entry)) table top line ⌝ }
 {
     let at = entry_place(table, top, line);
-    let low = paging::byte_at(ram, at);
-    let high = paging::byte_at(ram, at + 1);
-    low as u16 + 256 * high as u16
+    if ram.len() < 131072 {
+        let low = paging::byte_at(ram, at);
+        let high = paging::byte_at(ram, at + 1);
+        return low as u16 + 256 * high as u16;
+    }
+    ram[at] as u16 + 256 * ram[at + 1] as u16
 }
 
 pub fn read_pointer(word: u16) -> Pointer

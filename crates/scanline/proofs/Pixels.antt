@@ -1,9 +1,9 @@
 -- Laws of the places of a line's 90 pixel bytes: where they lie, and a test for them with no search.
 use Prim.Native.Nat.{ℕ, _+_, _-_, _*_, _/_, _%_, _≤_, _<_}
-use mathlib.Core.Path.{_≡_, refl, ap, sym}
-use mathlib.Core.Bool.{Bool, true, false}
+use mathlib.Core.Path.{_≡_, refl, ap, sym, _∙_}
+use mathlib.Core.Bool.{Bool, true, false, _&&_}
 use native.Mathlib.Omega.{arith}
-use borrow.Author.Tests.{ltb-true, ltb-false, eq-eqb, ne-eqb}
+use borrow.Author.Tests.{ltb-true, ltb-false, lt-ltb, le-ltb, eq-eqb, ne-eqb, eqb-true, eqb-false}
 use lib.Dec.{eqb, ltb}
 use Rattle.lineset.proofs.Any.{any-none, any-some}
 use Rattle.pointers.specs.Pointers.{pointerOf}
@@ -91,3 +91,41 @@ pub within :
     gap (p .start) at % 8 ≡ 0 →
     ltb (gap (p .start) at) 720 ≡ pixelTouched w at
 within w at p e = rw e (way w at)
+
+-- the same test on the parts of a pointer word: the block, the place in eight, and the way in eights
+other-eighth : (start at : ℕ) → start < 16384 → (start % 8 ≡ at % 8 → ⊥) → gap start at % 8 ≡ 0 → ⊥
+other-eighth start at s ne e = ne (omega arith)
+
+same-eighth : (start at : ℕ) → start < 16384 → start % 8 ≡ at % 8 → gap start at ≡ 8 * ((at % 16384 / 8 + 2048 - start / 8) % 2048)
+same-eighth start at s e = omega arith
+
+start-eighth : (w : ℕ) → (pointerOf w .start % 8 ≡ w % 8) × (pointerOf w .start / 8 ≡ 2 * (w % 8192 / 8))
+unfolding pointerOf
+start-eighth w = (omega arith, omega arith)
+
+eights : (n : ℕ) → ltb (8 * n) 720 ≡ ltb n 90
+eights n = go (ltb n 90) refl
+  where
+    go : (t : Bool) → ltb n 90 ≡ t → ltb (8 * n) 720 ≡ t
+    go true e = let l = ltb-true n 90 e in lt-ltb (8 * n) 720 (omega arith)
+    go false e = let l = ltb-false n 90 e in le-ltb (8 * n) 720 (omega arith)
+
+pub word-touched : (w at : ℕ)
+    → pixelTouched w at ≡ (eqb (w / 8192) (at / 16384) && (eqb (w % 8) (at % 8) && ltb ((at % 16384 / 8 + 2048 - 2 * (w % 8192 / 8)) % 2048) 90))
+unfolding pointerOf
+word-touched w at = go (eqb (w / 8192) (at / 16384)) refl (eqb (w % 8) (at % 8)) refl
+  where
+    go : (t : Bool) → eqb (w / 8192) (at / 16384) ≡ t → (u : Bool) → eqb (w % 8) (at % 8) ≡ u
+        → pixelTouched w at ≡ (t && (u && ltb ((at % 16384 / 8 + 2048 - 2 * (w % 8192 / 8)) % 2048) 90))
+    go false e u f = other-block w at (pointerOf w) refl (λ (z : at / 16384 ≡ w / 8192). eqb-false (w / 8192) (at / 16384) e (sym z))
+    go true e false f =
+        other-gap w at (pointerOf w) refl
+        (other-eighth (pointerOf w .start) at (start-lt w) (λ z. eqb-false (w % 8) (at % 8) f (sym (start-eighth w .0) ∙ z)))
+    go true e true f =
+        let m : pointerOf w .start % 8 ≡ at % 8 = start-eighth w .0 ∙ eqb-true (w % 8) (at % 8) f in
+        let g = same-eighth (pointerOf w .start) at (start-lt w) m in
+        let q : gap (pointerOf w .start) at % 8 ≡ 0 = omega arith in
+        sym (within w at (pointerOf w) refl (sym (eqb-true (w / 8192) (at / 16384) e)) q)
+        ∙ ap (λ (n : ℕ). ltb n 720) g
+        ∙ eights ((at % 16384 / 8 + 2048 - pointerOf w .start / 8) % 2048)
+        ∙ ap (λ (n : ℕ). ltb ((at % 16384 / 8 + 2048 - n) % 2048) 90) (start-eighth w .1)

@@ -4,7 +4,7 @@ use mathlib.Core.Path.{_≡_, refl, _∙_}
 use mathlib.Core.Bool.{Bool, true, false, _||_}
 use mathlib.Core.List.{List, [], _∷_}
 use native.Mathlib.Omega.{arith}
-use borrow.Author.Tests.{eqb-false, eq-eqb, ne-eqb}
+use borrow.Author.Tests.{eqb-true, eqb-false, eq-eqb, ne-eqb}
 use lib.Dec.{eqb}
 use lib.ListN.{getD}
 use Rattle.lineset.specs.Lines.{setOf}
@@ -36,6 +36,14 @@ module _ (ram : List ℕ) (table top at line : ℕ) where
         ne-eqb at (entryPlace table top line) (λ (z : at ≡ entryPlace table top line). h (omega arith)),
         ne-eqb at (entryPlace table top line + 1) (λ (z : at ≡ entryPlace table top line + 1). h (omega (arith, entry-place-even table top line))),
       )
+
+  -- both at once
+  pub touches-test : touches ram table top at line ≡ (eqb (at / 2) (entryPlace table top line / 2) || pixelTouched (pointerWord ram table top line) at)
+  touches-test = go (eqb (at / 2) (entryPlace table top line / 2)) refl
+    where
+      go : (b : Bool) → eqb (at / 2) (entryPlace table top line / 2) ≡ b → touches ram table top at line ≡ (b || pixelTouched (pointerWord ram table top line) at)
+      go true e = touches-pointer (eqb-true (at / 2) (entryPlace table top line / 2) e)
+      go false e = touches-other (eqb-false (at / 2) (entryPlace table top line / 2) e)
 
   -- standard RAM holds every place that touches a line
   pub touches-past :

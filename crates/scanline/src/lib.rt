@@ -36,20 +36,14 @@ pub fn drawn_byte(control: u8, byte: u8) -> u8
     }
 }
 
-// Whether a place is one of the 90 pixel bytes that a pointer word names: it stands in the word's
-// block, and the way to it from the start is eight times a number below 90.
+// Whether a place is one of the 90 pixel bytes that a pointer word names: it stands in the word's block and at the same
+// place in eight, and the way to it, round the block, is below 90 eights. No branch, since it is asked of every line.
 fn pixel_hit(word: u16, at: usize) -> bool
     ensures { λ r. ⌜ r ≡ pixelTouched word at ⌝ }
 {
-    let p = read_pointer(word);
-    let gap = (at % 16384 + 16384 - p.start as usize) % 16384;
-    if at / 16384 != p.block as usize {
-        return false;
-    }
-    if gap % 8 != 0 {
-        return false;
-    }
-    gap < 720
+    let w = word as usize;
+    let eights = (at % 16384 / 8 + 2048 - 2 * (w % 8192 / 8)) % 2048;
+    (w / 8192 == at / 16384) & ((w % 8 == at % 8) & (eights < 90))
 }
 
 // Whether a place is one of a line's two pointer bytes, of which the first has an even place, or of
@@ -57,10 +51,8 @@ fn pixel_hit(word: u16, at: usize) -> bool
 fn hits(ram: &[u8], table: u8, top: u8, at: usize, line: u8) -> bool
     ensures { λ r. ⌜ r ≡ touches (now (ram .entry)) table top at line ⌝ }
 {
-    if at / 2 == entry_place(table, top, line) / 2 {
-        return true;
-    }
-    pixel_hit(pointer_word(ram, table, top, line), at)
+    let pointer = at / 2 == entry_place(table, top, line) / 2;
+    pointer | pixel_hit(pointer_word(ram, table, top, line), at)
 }
 
 // The 64 lines from a line on as a word, made from its top digit down.

@@ -1,0 +1,5 @@
+pub mod Answers
+pub mod Differences
+pub mod Found
+pub mod Over
+pub mod Painting

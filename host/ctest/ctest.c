@@ -1,0 +1,115 @@
+/* Calls every function of the C interface and checks what comes back. Exit status 0 if all holds.
+ * It is C11 and C++ alike, so that the header is tried in both. */
+
+#include "joyce.h"
+
+#include <stdio.h>
+#include <string.h>
+
+static uint8_t ram[8 * JOYCE_BLOCK];
+static uint8_t picture[JOYCE_PICTURE], other[JOYCE_PICTURE];
+static const uint8_t nothing[1] = {0};   /* lent with length 0 */
+static int checks, failures;
+
+static void check(const char *what, long got, long wanted) {
+    checks++;
+    if (got != wanted) {
+        failures++;
+        fprintf(stderr, "%s: got %ld, wanted %ld\n", what, got, wanted);
+    }
+}
+
+static uint64_t step(joyce_board *board, uint32_t kind, uint32_t number, uint32_t value) {
+    return joyce_step(board, kind, number, value, ram, sizeof ram, nothing, 0);
+}
+
+static void check_power_on(joyce_board *board) {
+    memset(board, 0xFF, sizeof *board);
+    check("power-on, sizes not allowed", joyce_refusal(joyce_power_on(board, 9, 9, 50, 0, 0, 0, 0, 0, 0, 0)), 6);
+    check("record of zeros", board->sizes.internal | board->driven | (board->dirty.words[3] != 0), 0);
+    check("power-on", (long)joyce_power_on(board, 8, 8, 50, 0x80, 0x81, 0x25, 0x83, 0x00, 0x00, 0x00), 0);
+    check("boot mode", board->boot.mode, 1);
+    check("terminal count", board->disc.terminal_count, 1);
+    check("line 255 noted", (long)(board->dirty.words[3] >> 63), 1);
+}
+
+static void check_steps(joyce_board *board) {
+    static const uint8_t stream[2] = {0x3E, 0x07};
+    uint64_t reply = joyce_step(board, JOYCE_FETCH, 0x1234, 0, ram, sizeof ram, stream, 2);
+    check("boot fetch", joyce_byte(reply), 0x3E);
+    check("stream place", board->boot.at, 1);
+    check("stream ended", joyce_refusal(step(board, JOYCE_FETCH, 0, 0)), JOYCE_STREAM_ENDED);
+    check("end boot", joyce_refusal(step(board, JOYCE_OUT, 0xF8, 0)), 0);
+    check("video on", joyce_refusal(step(board, JOYCE_OUT, 0xF7, 0x40)), 0);
+    check("split write", joyce_refusal(step(board, JOYCE_WRITE, 0x8003, 0x77)), 0);
+    check("write block", ram[5 * JOYCE_BLOCK + 3], 0x77);
+    check("read block", joyce_byte(step(board, JOYCE_READ, 0x8003, 0)), 0);
+    step(board, JOYCE_SCAN, 0, 0);
+    reply = step(board, JOYCE_SCAN, 0, 0);
+    check("INT after a tick", joyce_int(reply), 1);
+    check("F4", joyce_byte(step(board, JOYCE_IN, 0xF4, 0)), 0x51);
+    check("F8 after F4", joyce_byte(step(board, JOYCE_IN, 0xF8, 0)), 0x50);
+    check("passed on", joyce_forwarded(step(board, JOYCE_IN, 0x00, 0)), 1);
+    check("no channel", joyce_refusal(step(board, JOYCE_OUT, 0x00, 0)), JOYCE_NO_CHANNEL);
+    check("offset 16", joyce_refusal(step(board, JOYCE_KEYBOARD, 16, 0)), JOYCE_BAD_NUMBER);
+    check("keyboard word", joyce_refusal(step(board, JOYCE_KEYBOARD, 15, 9)), 0);
+    check("keyboard byte", ram[4 * JOYCE_BLOCK - 1], 9);
+    step(board, JOYCE_OUT, 0xF8, 2);
+    check("NMI", joyce_nmi(step(board, JOYCE_DISC_LINE, 0, 1)), 1);
+    check("NMI once", joyce_nmi(step(board, JOYCE_SCAN, 0, 0)), 0);
+    check("external line", joyce_int(step(board, JOYCE_EXTERNAL_LINE, 0, 1)), 1);
+    check("kind 10", joyce_refusal(step(board, 10, 0, 0)), JOYCE_BAD_NUMBER);
+    check("short RAM", joyce_refusal(joyce_step(board, JOYCE_SCAN, 0, 0, ram, sizeof ram - 1, nothing, 0)), JOYCE_BAD_LENGTH);
+}
+
+static void check_picture(joyce_board *board) {
+    check("refresh", joyce_count(joyce_refresh(board, ram, sizeof ram, picture, sizeof picture)), 256);
+    check("none noted", joyce_found(joyce_next_noted(board, 0)), 0);
+    /* Line 7 gets a line of its own, starting at block 1, 1930h. */
+    step(board, JOYCE_WRITE, 14, 0x98);
+    step(board, JOYCE_WRITE, 15, 0x2C);
+    step(board, JOYCE_WRITE, 0x4000 + 0x1930, 0xA5);
+    check("line 7 noted", joyce_line(joyce_next_noted(board, 1)), 7);
+    check("n 256", joyce_refusal(joyce_next_noted(board, 256)), JOYCE_BAD_NUMBER);
+    step(board, JOYCE_OUT, 0xF8, 8);
+    check("floats", joyce_floats(joyce_refresh(board, ram, sizeof ram, picture, sizeof picture)), 1);
+    check("drawn byte", picture[7 * JOYCE_LINE], 0xA5);
+    check("draw", joyce_refusal(joyce_draw(board, ram, sizeof ram, other, sizeof other)), 0);
+    check("refresh as draw", memcmp(picture, other, sizeof other), 0);
+    check("no difference", joyce_found(joyce_first_difference(picture, sizeof picture, other, sizeof other)), 0);
+    other[7 * JOYCE_LINE + 2] ^= 0x10;
+    uint64_t reply = joyce_first_difference(picture, sizeof picture, other, sizeof other);
+    check("difference found", joyce_found(reply), 1);
+    check("its line", joyce_line(reply), 7);
+    check("its pixel", joyce_pixel(reply), 19);
+    board->clock.counter = 16;
+    check("bad record", joyce_refusal(joyce_draw(board, ram, sizeof ram, other, sizeof other)), JOYCE_BAD_RECORD);
+}
+
+static void check_numbers(void) {
+    uint8_t line[JOYCE_LINE] = {0xA5}, wide[JOYCE_WIDE_LINE];
+    check("widen", joyce_widen(line, sizeof line, wide, sizeof wide), 0);
+    check("widened", wide[0] << 8 | wide[1], 0xCC33);
+    check("widen, short", joyce_widen(line, 89, wide, sizeof wide), 2);
+    check("make pointer", joyce_word(joyce_make_pointer(1, 0x1930)), 0x2C98);
+    check("make pointer, bit 3", (long)(joyce_make_pointer(1, 8) >> 32), 3);
+    uint64_t reply = joyce_read_pointer(0xFFFF);
+    check("pointer block", joyce_block(reply), 7);
+    check("pointer start", joyce_start(reply), 0x3FF7);
+    check("roll", joyce_roll(0, 128), -128);
+    reply = joyce_reach(16, 16, 0x80, 0x25, 0x98, 0x87, 0x00, 0x4005);
+    check("reach, place", joyce_place(reply), 5);
+    check("reach, read", joyce_read_block(reply), 2);
+    check("reach, write", joyce_write_block(reply), 5);
+    check("reach, sizes", joyce_refusal(joyce_reach(16, 15, 0, 0, 0, 0, 0, 0)), 6);
+}
+
+int main(void) {
+    joyce_board board;
+    check_power_on(&board);
+    check_steps(&board);
+    check_picture(&board);
+    check_numbers();
+    printf("%d checks, %d failed\n", checks, failures);
+    return failures != 0;
+}

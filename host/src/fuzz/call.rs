@@ -1,0 +1,159 @@
+//! One call of a list, kept as plain values so that a list can be cut down and made again.
+
+use crate::machine::Numbers;
+use crate::model::{Ask, PowerOn};
+use crate::record::{Board, BLOCK, PICTURE};
+use std::fmt;
+
+#[derive(Clone, PartialEq, Debug)]
+pub enum Call {
+    PowerOn(PowerOn),
+    Step {
+        step: Numbers,
+        ram: usize,
+        stream: usize,
+    },
+    Draw {
+        ram: usize,
+        picture: usize,
+    },
+    Refresh {
+        ram: usize,
+        picture: usize,
+    },
+    NextNoted(u32),
+    /// The host hands in this record instead of the one returned.
+    Record(Board),
+    /// Others write on the picture.
+    Scribble {
+        at: usize,
+        len: usize,
+        seed: u64,
+    },
+    /// The host alters the RAM between calls.
+    Poke {
+        at: usize,
+        value: u8,
+    },
+    Widen {
+        line: usize,
+        out: usize,
+        seed: u64,
+    },
+    /// Two random pictures, the second a copy with some bits flipped.
+    FirstDifference {
+        a: usize,
+        b: usize,
+        flips: u8,
+        seed: u64,
+    },
+    MakePointer {
+        block: u32,
+        start: u32,
+    },
+    ReadPointer(u16),
+    Roll(u8, u8),
+    Reach(Ask),
+}
+
+impl Call {
+    pub fn writes_picture(&self) -> bool {
+        matches!(self, Call::Draw { .. } | Call::Refresh { .. } | Call::Scribble { .. })
+    }
+}
+
+/// How the RAM stands before the first call.
+#[derive(Clone, Copy, PartialEq, Debug)]
+pub enum Fill {
+    Zero,
+    Random,
+    /// Table at block 2, 3600h, rows of eight lines as the standard software lays them.
+    Standard,
+    /// Table over pixels over keyboard bytes, at the top of block 3.
+    Tangle,
+    /// Few different pointers, so that many lines share their bytes.
+    Shared,
+}
+
+/// What a list of calls starts from.
+#[derive(Clone, Copy, PartialEq, Debug)]
+pub struct Setup {
+    pub blocks: u8,
+    pub fill: Fill,
+    pub seed: u64,
+}
+
+impl Setup {
+    pub fn ram_bytes(&self) -> usize {
+        self.blocks as usize * BLOCK
+    }
+}
+
+impl fmt::Display for Setup {
+    fn fmt(&self, f: &mut fmt::Formatter<'_>) -> fmt::Result {
+        write!(f, "RAM of {} blocks, filled {:?} from seed {:#x}", self.blocks, self.fill, self.seed)
+    }
+}
+
+/// Says a step the way the rules do.
+fn step_text(step: &Numbers) -> String {
+    let Numbers { kind, number, value } = *step;
+    match kind {
+        1 => format!("fetch {number:04X}h{}", not_taken(value)),
+        2 => format!("data read {number:04X}h{}", not_taken(value)),
+        3 => format!("data write {number:04X}h, value {value:02X}h"),
+        4 => format!("channel in {number:02X}h{}", not_taken(value)),
+        5 => format!("channel out {number:02X}h, value {value:02X}h"),
+        6 => format!("scan{}{}", not_taken(number), not_taken(value)),
+        7 => format!("keyboard word, offset {number}, value {value:02X}h"),
+        8 => format!("disc line {value}{}", not_taken(number)),
+        9 => format!("external line {value}{}", not_taken(number)),
+        _ => format!("kind {kind}, number {number}, value {value}"),
+    }
+}
+
+fn not_taken(number: u32) -> String {
+    if number == 0 {
+        String::new()
+    } else {
+        format!(" (with {number}, which it does not take)")
+    }
+}
+
+impl fmt::Display for Call {
+    fn fmt(&self, f: &mut fmt::Formatter<'_>) -> fmt::Result {
+        match self {
+            Call::PowerOn(on) => write!(
+                f,
+                "power-on: internal {}, total {}, rate {}, maps {:02X?}, lock {:02X}h, F5 {:02X}h, F6 {:02X}h",
+                on.sizes.internal, on.sizes.total, on.rate, on.maps, on.lock, on.table, on.top
+            ),
+            Call::Step { step, ram, stream } => {
+                write!(f, "{}; lent RAM {ram}, stream {stream}", step_text(step))
+            }
+            Call::Draw { ram, picture } => write!(f, "draw; lent RAM {ram}, picture {picture}"),
+            Call::Refresh { ram, picture } => write!(f, "refresh; lent RAM {ram}, picture {picture}"),
+            Call::NextNoted(n) => write!(f, "next noted line from {n}"),
+            Call::Record(board) => write!(f, "record replaced by {board:X?}"),
+            Call::Scribble { at, len, seed } => write!(f, "{len} picture bytes from {at} overwritten (seed {seed:#x})"),
+            Call::Poke { at, value } => {
+                write!(f, "RAM block {}, place {:04X}h overwritten with {value:02X}h", at / BLOCK, at % BLOCK)
+            }
+            Call::Widen { line, out, seed } => write!(f, "widen {line} bytes to {out} (seed {seed:#x})"),
+            Call::FirstDifference { a, b, flips, seed } => {
+                write!(f, "first difference of pictures of {a} and {b} bytes, {flips} bits flipped (seed {seed:#x})")
+            }
+            Call::MakePointer { block, start } => write!(f, "make pointer of block {block}, start {start:04X}h"),
+            Call::ReadPointer(word) => write!(f, "read pointer {word:04X}h"),
+            Call::Roll(old, new) => write!(f, "roll from {old} to {new}"),
+            Call::Reach(ask) => write!(f, "reach {ask:02X?}"),
+        }
+    }
+}
+
+/// Room behind the picture, to lend it too long.
+pub const PICTURE_ROOM: usize = PICTURE + 256;
+/// Room behind the RAM, to lend it too long.
+pub const RAM_MARGIN: usize = BLOCK + 16;
+/// The longest stream lent, some of it too long.
+pub const STREAM_ROOM: usize = 1_030;

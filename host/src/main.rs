@@ -1,0 +1,126 @@
+//! The tool `joyce`.
+
+mod tool;
+
+use joyce::fuzz;
+use joyce::machine::Machine;
+use joyce::model::reach_list;
+use joyce::reply::Reach;
+use joyce::Library;
+use std::io::{self, Read};
+use std::process::ExitCode;
+use std::time::Instant;
+use tool::args::Args;
+use tool::out;
+
+const HELP: &str = "\
+joyce demo [-o FILE]            a ledger page on a board's screen; picture in FILE (demo.pbm)
+joyce render RAM [--f5 HEX] [--f6 HEX] [--f7 HEX] [--rate 50|60] [-o FILE]
+                                the screen of a RAM file (5B, 00, 40, 50, screen.pbm)
+joyce reach                     the reach list: groups of 9 bytes from stdin, text to stdout
+joyce diff A B                  the first place where two pictures differ; exit status 1 if they do
+joyce fuzz [--calls N] [--seed S] [--episode E] [--fault F]
+                                the library against the model (2000000 calls, seed 1);
+                                --fault only with the stand-in
+joyce bench [--ms N]            the library's time beside the model's (20 ms for each)
+joyce help                      this text
+";
+
+fn main() -> ExitCode {
+    let arguments: Vec<String> = std::env::args().skip(1).collect();
+    let (command, rest) = match arguments.split_first() {
+        Some((command, rest)) => (command.as_str(), rest),
+        None => ("", &[][..]),
+    };
+    match run(command, rest) {
+        Ok(true) => ExitCode::SUCCESS,
+        Ok(false) => ExitCode::from(1),
+        Err(error) => {
+            eprintln!("joyce: {error}");
+            ExitCode::from(2)
+        }
+    }
+}
+
+/// True for success, false for a difference that was found.
+fn run(command: &str, rest: &[String]) -> Result<bool, String> {
+    match command {
+        "demo" => tool::demo::run(&Library, rest).map(|()| true),
+        "render" => tool::render::run(&Library, rest).map(|()| true),
+        "reach" => reach(rest).map(|()| true),
+        "diff" => tool::diff::run(&Library, rest),
+        "fuzz" => run_fuzz(rest),
+        "bench" => tool::bench::run(&Library, rest).map(|()| true),
+        "help" | "--help" | "-h" => out::write(HELP).map(|()| true),
+        "" => Err(format!("no command\n{HELP}")),
+        other => Err(format!("unknown command {other}\n{HELP}")),
+    }
+}
+
+fn reach(rest: &[String]) -> Result<(), String> {
+    Args::parse(rest, &[])?.expect_words(0, "groups on standard input")?;
+    let mut input = Vec::new();
+    io::stdin().read_to_end(&mut input).map_err(|error| format!("standard input: {error}"))?;
+    out::write(&reach_list(&input, |ask| Reach::from(Library.reach(ask))))
+}
+
+fn run_fuzz(rest: &[String]) -> Result<bool, String> {
+    let args = Args::parse(rest, &["--calls", "--seed", "--episode", "--fault"])?;
+    args.expect_words(0, "flags only")?;
+    let options = fuzz::Options {
+        calls: args.number("--calls", 2_000_000)?,
+        seed: args.number("--seed", 1)?,
+        first_episode: args.number("--episode", 0)?,
+        sweep: args.text("--episode").is_none() && args.text("--fault").is_none(),
+    };
+    let machine = under_test(&args)?;
+    let start = Instant::now();
+    let mut next = options.calls / 10;
+    let outcome = fuzz::run(machine.as_ref(), &options, |calls| {
+        if calls >= next {
+            eprintln!("{calls} calls, {:.1} s", start.elapsed().as_secs_f64());
+            next += (options.calls / 10).max(1);
+        }
+    });
+    match &outcome {
+        Ok(passed) => report(passed, options.seed, start.elapsed().as_secs_f64())?,
+        Err(failure) => out::write(&failure.to_string())?,
+    }
+    Ok(outcome.is_ok())
+}
+
+fn report(passed: &fuzz::Passed, seed: u64, seconds: f64) -> Result<(), String> {
+    let fuzz::Passed { calls, sweep_calls, tally } = passed;
+    out::line(&format!(
+        "no difference: {calls} calls in lists (seed {seed}), {sweep_calls} in the sweep, {seconds:.1} s"
+    ))?;
+    out::line(&format!(
+        "accepted {}, refused with 1 to 6: {:?}; {} stores noted lines, {} refreshes drew, {} NMIs",
+        tally.refusals[0],
+        &tally.refusals[1..7],
+        tally.noting,
+        tally.drawing,
+        tally.nmi
+    ))
+}
+
+#[cfg(not(feature = "standin"))]
+fn under_test(args: &Args) -> Result<Box<dyn Machine>, String> {
+    match args.text("--fault") {
+        None => Ok(Box::new(Library)),
+        Some(_) => Err("--fault is for the stand-in (--features standin)".to_string()),
+    }
+}
+
+#[cfg(feature = "standin")]
+fn under_test(args: &Args) -> Result<Box<dyn Machine>, String> {
+    use joyce::ffi::{Faulty, FAULTS};
+    let fault = args.number("--fault", 0)?;
+    if fault as usize > FAULTS.len() {
+        return Err(format!("--fault: there are {} faults", FAULTS.len()));
+    }
+    if fault > 0 {
+        out::line(&format!("fault {fault}: {}", FAULTS[fault as usize - 1]))?;
+    }
+    Ok(Box::new(Faulty(fault as u8)))
+}

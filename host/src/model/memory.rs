@@ -1,0 +1,67 @@
+//! Paging: which block an address reaches, and the reach list.
+
+use super::BAD_SIZES;
+use crate::record::{Paging, Sizes};
+use crate::reply::Reach;
+use std::fmt::Write;
+
+/// Lock bit of each bank. Issue 9 does not have them in bank order.
+const LOCK_BITS: [u8; 4] = [0x40, 0x10, 0x20, 0x80];
+
+/// The blocks a bank reads from and writes to.
+pub(crate) fn blocks(sizes: Sizes, paging: &Paging, bank: usize) -> (u8, u8) {
+    let map = paging.maps[bank];
+    if map & 0x80 != 0 {
+        let wanted = map & 0x7F;
+        let block = if wanted < sizes.total { wanted } else { wanted % sizes.internal };
+        return (block, block);
+    }
+    let write = map & 7;
+    let locked = paging.lock & LOCK_BITS[bank] != 0;
+    let read = if locked { write } else { map >> 4 & 7 };
+    (read, write)
+}
+
+/// The arguments of a reach.
+#[derive(Clone, Copy, PartialEq, Eq, Debug, Default)]
+pub struct Ask {
+    pub sizes: Sizes,
+    pub paging: Paging,
+    pub address: u16,
+}
+
+/// Where a read and a write of an address would land.
+pub fn reach(ask: &Ask) -> Reach {
+    if !ask.sizes.allowed() {
+        return Reach { refusal: BAD_SIZES, ..Reach::default() };
+    }
+    let (read, write) = blocks(ask.sizes, &ask.paging, ask.address as usize >> 14);
+    Reach { place: ask.address & 0x3FFF, read, write, refusal: 0 }
+}
+
+/// The reach list of a run of 9-byte groups, each answered by `answer`.
+pub fn reach_list(input: &[u8], answer: impl Fn(&Ask) -> Reach) -> String {
+    let mut text = String::from("REACH\n");
+    for group in input.chunks(9) {
+        let line = match group {
+            &[internal, total, f0, f1, f2, f3, lock, low, high] => answer(&Ask {
+                sizes: Sizes { internal, total },
+                paging: Paging { maps: [f0, f1, f2, f3], lock },
+                address: u16::from_le_bytes([low, high]),
+            }),
+            _ => Reach { refusal: super::BAD_LENGTH, ..Reach::default() },
+        };
+        write_reach(&mut text, &line);
+    }
+    text
+}
+
+fn write_reach(text: &mut String, reach: &Reach) {
+    let done = match reach {
+        Reach { refusal: 0, place, read, write } => {
+            writeln!(text, "R {read:02X} {place:04X} W {write:02X} {place:04X}")
+        }
+        refused => writeln!(text, "X {}", refused.refusal),
+    };
+    done.expect("writing to a string cannot fail");
+}

@@ -1,0 +1,218 @@
+//! The bench cases, the refusals in their order, and the notes.
+
+use super::*;
+use crate::record::{Lines, BLOCK, PICTURE};
+use crate::reply::{Drawn, Pointer, Reach};
+
+fn on(internal: u8, total: u8, rate: u8) -> PowerOn {
+    PowerOn { sizes: Sizes { internal, total }, rate, ..PowerOn::default() }
+}
+
+/// A small board out of boot mode, with its RAM.
+fn board(rate: u8) -> (Board, Vec<u8>) {
+    let (mut board, answer) = power_on(&on(8, 8, rate));
+    assert_eq!(answer, Answer::default());
+    board.boot.mode = 0;
+    board.paging.maps = [0x80, 0x81, 0x82, 0x83];
+    (board, vec![0; 8 * BLOCK])
+}
+
+fn landing(internal: u8, total: u8, maps: [u8; 4], lock: u8, address: u16) -> (u8, u8, u16) {
+    let Reach { place, read, write, refusal } =
+        reach(&Ask { sizes: Sizes { internal, total }, paging: Paging { maps, lock }, address });
+    assert_eq!(refusal, 0);
+    (read, write, place)
+}
+
+#[test]
+fn p1_to_p5_and_the_last_address() {
+    assert_eq!(landing(16, 16, [0x98; 4], 0, 0), (8, 8, 0));
+    assert_eq!(landing(32, 32, [0x98; 4], 0, 0), (24, 24, 0));
+    assert_eq!(landing(32, 40, [0xA7; 4], 0, 0), (39, 39, 0));
+    assert_eq!(landing(32, 40, [0xA8; 4], 0, 0), (8, 8, 0));
+    let f1 = [0, 0x25, 0, 0];
+    assert_eq!(landing(8, 8, f1, 0, 0x4000), (2, 5, 0));
+    assert_eq!(landing(8, 8, f1, 0x10, 0x4000), (5, 5, 0));
+    assert_eq!(landing(8, 8, f1, 0x20, 0x4000), (2, 5, 0));
+    assert_eq!(landing(8, 8, [0, 0, 0, 0x87], 0, 0xFFFF), (7, 7, 0x3FFF));
+}
+
+#[test]
+fn each_lock_bit_has_its_bank() {
+    for (bank, bit) in [(3, 0x80), (0, 0x40), (2, 0x20), (1, 0x10)] {
+        for other in 0..4 {
+            let read = landing(8, 8, [0x25; 4], bit, other * 0x4000).0;
+            assert_eq!(read, if other == bank { 5 } else { 2 });
+        }
+    }
+}
+
+#[test]
+fn p6_and_p7_pointers() {
+    assert_eq!(read_pointer(0x2C98), Pointer { block: 1, start: 0x1930 });
+    assert_eq!(read_pointer(0xFFFF), Pointer { block: 7, start: 0x3FF7 });
+    for word in 0..=0xFFFF {
+        let Pointer { block, start } = read_pointer(word);
+        assert_eq!(make_pointer(block as u32, start as u32).word, word);
+    }
+    for (block, start) in [(8, 0), (0, 16_384), (0, 8), (u32::MAX, u32::MAX)] {
+        assert_eq!(make_pointer(block, start), crate::reply::Made { word: 0, refusal: 3 });
+    }
+}
+
+#[test]
+fn p8_a_line_wraps_in_its_block() {
+    let (mut board, mut ram) = board(50);
+    board.video = Video { table: 0, top: 0, control: 0x40 };
+    let pointer = read_pointer(0x3EE0);
+    assert_eq!((pointer.block, pointer.start + 8 * 71), (1, 0x3FF8));
+    ram[..2].copy_from_slice(&0x3EE0u16.to_le_bytes());
+    ram[BLOCK + 0x3FF8] = 0x71;
+    ram[BLOCK] = 0x72;
+    let mut picture = vec![0; PICTURE];
+    assert_eq!(draw(&board, &ram, &mut picture), Drawn::default());
+    assert_eq!(picture[71..73], [0x71, 0x72]);
+    board.dirty = Lines::default();
+    step(&mut board, Step::Write { address: 0x4000, value: 1 }, &mut ram, &[]);
+    assert!(board.dirty.has(0));
+}
+
+#[test]
+fn p9_and_p10_table_and_entry() {
+    let (mut board, mut ram) = board(50);
+    board.video = Video { table: 0x99, top: 0xFF, control: 0x40 };
+    assert_eq!(table_place(&board.video), 4 * BLOCK + 0x3200);
+    board.dirty = Lines::default();
+    board.paging.maps[0] = 0x84;
+    step(&mut board, Step::Write { address: 0x3200, value: 1 }, &mut ram, &[]);
+    assert_eq!(board.dirty, Lines::single(1));
+}
+
+#[test]
+fn p11_counter() {
+    let (mut board, mut ram) = board(50);
+    board.clock.counter = 3;
+    let mut read = |channel| step(&mut board, Step::In { channel }, &mut ram, &[]);
+    let seen = [read(0xF8), read(0xF4), read(0xF4)].map(|answer| (answer.byte, answer.int));
+    assert_eq!(seen, [(0x53, true), (0x53, false), (0x50, false)]);
+}
+
+#[test]
+fn p12_drawn_bytes_and_widening() {
+    let (mut board, mut ram) = board(50);
+    ram[2 * BLOCK] = 0xA5;
+    ram[..2].copy_from_slice(&(2u16 << 13).to_le_bytes());
+    let mut picture = vec![0; PICTURE];
+    for (control, byte) in [(0x40, 0xA5), (0xC0, 0x5A), (0x00, 0x00), (0x80, 0xFF)] {
+        board.video.control = control;
+        draw(&board, &ram, &mut picture);
+        assert_eq!(picture[0], byte);
+    }
+    let mut wide = [0; 180];
+    assert_eq!(widen(&[0xA5; 90], &mut wide), 0);
+    assert_eq!(wide[..2], [0xCC, 0x33]);
+    assert_eq!(widen(&[0; 89], &mut wide), 2);
+}
+
+#[test]
+fn p13_beam() {
+    for (rate, last) in [(50, 311), (60, 259)] {
+        let (mut board, mut ram) = board(rate);
+        let mut scan = |beam| {
+            board.clock = Clock { counter: 0, beam };
+            step(&mut board, Step::Scan, &mut ram, &[]);
+            (board.clock.beam, board.clock.counter)
+        };
+        assert_eq!([scan(1), scan(2), scan(last)], [(2, 1), (3, 0), (0, 0)]);
+    }
+}
+
+#[test]
+fn p14_rolls() {
+    assert_eq!([roll(255, 0), roll(0, 255), roll(0, 128)], [1, -1, -128]);
+}
+
+#[test]
+fn reach_sample() {
+    let input = [
+        0x10, 0x10, 0x80, 0x25, 0x98, 0x87, 0x00, 0x00, 0x80, 0x10, 0x10, 0x80, 0x25, 0x98, 0x87, 0x00, 0x05, 0x40,
+        0x10,
+    ];
+    let text = reach_list(&input, reach);
+    assert_eq!(text, "REACH\nR 08 0000 W 08 0000\nR 02 0005 W 05 0005\nX 2\n");
+    assert_eq!(reach_list(&[], reach), "REACH\n");
+    assert_eq!(reach_list(&[7; 9], reach), "REACH\nX 6\n");
+}
+
+#[test]
+fn refusals_in_order() {
+    let (good, mut ram) = board(50);
+    let mut bad = good;
+    bad.clock.counter = 16;
+    let mut boot = good;
+    boot.boot = Boot { mode: 1, at: 5 };
+    boot.external = 1;
+    let long = [0; 1_025];
+    let mut refusal = |mut board: Board, numbers: (u32, u32, u32), ram_len: usize, stream: &[u8]| {
+        let before = board;
+        let answer = step_numbers(&mut board, numbers.0, numbers.1, numbers.2, &mut ram[..ram_len], stream);
+        assert_eq!(board, before);
+        (answer.refusal, answer.int)
+    };
+    let all = 8 * BLOCK;
+    assert_eq!(refusal(bad, (99, 0, 0), 0, &long), (1, false));
+    assert_eq!(refusal(boot, (99, 0, 0), all - 1, &[]), (2, true));
+    assert_eq!(refusal(boot, (1, 65_536, 0), all, &long), (2, true));
+    assert_eq!(refusal(boot, (1, 65_536, 0), all, &[]), (3, true));
+    assert_eq!(refusal(boot, (1, 65_535, 0), all, &[0; 5]), (4, true));
+    assert_eq!(refusal(boot, (4, 0xF0, 0), all, &[]), (5, true));
+    assert_eq!(refusal(good, (5, 0x00, 0), all, &[]), (5, false));
+    assert_eq!(refusal(good, (7, 16, 0), all, &[]), (3, false));
+    assert_eq!(refusal(good, (8, 0, 2), all, &[]), (3, false));
+    assert_eq!(power_on(&on(8, 7, 50)).1.refusal, 6);
+    assert_eq!(power_on(&on(8, 8, 51)), (Board::default(), Answer { refusal: 6, ..Answer::default() }));
+    assert_eq!(next_noted(&bad, 256).refusal, 1);
+    assert_eq!(next_noted(&good, 256).refusal, 3);
+}
+
+#[test]
+fn nmi_is_shown_once() {
+    let (mut board, mut ram) = board(50);
+    let mut make = |next| step(&mut board, next, &mut ram, &[]);
+    make(Step::Out { channel: 0xF8, value: 2 });
+    let lines = |answer: Answer| (answer.int, answer.nmi);
+    assert_eq!(lines(make(Step::DiscLine { on: true })), (false, true));
+    assert_eq!(lines(make(Step::Scan)), (false, false));
+    assert_eq!(lines(make(Step::Out { channel: 0xF8, value: 0x12 })), (false, true));
+    assert_eq!(lines(make(Step::Out { channel: 0xF8, value: 3 })), (true, false));
+}
+
+/// Notes by the rule as it is written, each line compared before and after.
+#[test]
+fn stores_note_what_the_rule_says() {
+    let (mut board, mut ram) = board(60);
+    board.video = Video { table: 0x7F, top: 0xF0, control: 0x40 };
+    for (index, byte) in ram.iter_mut().enumerate() {
+        *byte = (index * 7 + index / 256) as u8 & 0x6F;
+    }
+    let places = |board: &Board, ram: &[u8], line: u8| -> (u16, Vec<usize>) {
+        let entry = table_place(&board.video) + 2 * board.video.top.wrapping_add(line) as usize;
+        let word = u16::from_le_bytes([ram[entry], ram[entry + 1]]);
+        let Pointer { block, start } = read_pointer(word);
+        (word, (0..90).map(|i| block as usize * BLOCK + (start as usize + 8 * i) % BLOCK).collect())
+    };
+    for round in 0..400u32 {
+        board.dirty = Lines::default();
+        let (before, before_ram) = (board, ram.clone());
+        let next = match round % 2 {
+            0 => Step::Keyboard { offset: (round / 2 % 16) as u8, value: round as u8 },
+            _ => Step::Write { address: (round * 167) as u16, value: round as u8 },
+        };
+        step(&mut board, next, &mut ram, &[]);
+        for line in 0..=255 {
+            let (word, bytes) = places(&before, &before_ram, line);
+            let differs = word != places(&before, &ram, line).0 || bytes.iter().any(|&at| ram[at] != before_ram[at]);
+            assert_eq!(board.dirty.has(line), line < 200 && differs, "line {line} after {next:?}");
+        }
+    }
+}

@@ -1,0 +1,218 @@
+//! Stands in for the linked library while there is none: the model, sound or with one fault put in
+//! on purpose, to see that the differential test finds it.
+
+use crate::machine::{Machine, Model, Numbers};
+use crate::model::{self, Ask, PowerOn};
+use crate::record::{Board, Lines, BLOCK, ENABLE, LINE_BYTES, PICTURE, REVERSE, ROUTE_NMI};
+use crate::reply::{Answer, Drawn, Pointer, Reply};
+
+/// The faults, numbered from 1.
+pub const FAULTS: [&str; 16] = [
+    "reading F8 clears the counter",
+    "lock bits in bank order",
+    "pixel bytes follow each other with no gap of eight",
+    "a store through a split map marks lines of the read block",
+    "reverse is ignored while the screen is off",
+    "keyboard words note no line",
+    "the tick comes at another beam",
+    "NMI is shown twice",
+    "a made-up redraw count",
+    "refresh leaves a line",
+    "refusal 3 is checked before 2",
+    "an unshown line is drawn",
+    "a store of an equal byte notes lines",
+    "a store into the table notes no line",
+    "a pixel byte past the end of the block is not noted",
+    "reset keeps the stream place",
+];
+
+/// The stand-in; fault 0 is none.
+pub struct Faulty(pub u8);
+
+/// A stand-in without fault, under the library's name.
+#[allow(non_upper_case_globals)]
+pub const Library: Faulty = Faulty(0);
+
+impl Machine for Faulty {
+    fn power_on(&self, board: &mut Board, on: &PowerOn) -> Reply {
+        Model.power_on(board, on)
+    }
+
+    fn step(&self, board: &mut Board, step: Numbers, ram: &mut [u8], stream: &[u8]) -> Reply {
+        match self.0 {
+            2 => bank_order_locks(board, step, ram, stream),
+            11 if board.good() && model::Step::from_numbers(step.kind, step.number, step.value).is_none() => {
+                Answer { int: board.int(), refusal: 3, ..Answer::default() }.into()
+            }
+            1 | 4 | 6 | 7 | 8 | 13 | 14 | 15 | 16 => self.altered_step(board, step, ram, stream),
+            _ => Model.step(board, step, ram, stream),
+        }
+    }
+
+    fn draw(&self, board: &Board, ram: &[u8], picture: &mut [u8]) -> Reply {
+        let reply = Model.draw(board, ram, picture);
+        if reply.refusal() == 0 {
+            self.spoil(board, &board.shown(), ram, picture);
+        }
+        reply
+    }
+
+    fn refresh(&self, board: &mut Board, ram: &[u8], picture: &mut [u8]) -> Reply {
+        let noted = board.dirty;
+        let last = if self.0 == 10 { (0..=255).rev().find(|&line| noted.has(line)) } else { None };
+        let kept = if self.0 == 10 { picture.to_vec() } else { Vec::new() };
+        let reply = Model.refresh(board, ram, picture);
+        if reply.refusal() != 0 {
+            return reply;
+        }
+        self.spoil(board, &noted, ram, picture);
+        match (self.0, last) {
+            (9, _) => Drawn { count: reply.value().min(255), ..reply.into() }.into(),
+            (10, Some(line)) => {
+                let at = line as usize * LINE_BYTES;
+                picture[at..at + LINE_BYTES].copy_from_slice(&kept[at..at + LINE_BYTES]);
+                reply
+            }
+            _ => reply,
+        }
+    }
+
+    fn next_noted(&self, board: &Board, n: u32) -> Reply {
+        Model.next_noted(board, n)
+    }
+
+    fn first_difference(&self, a: &[u8], b: &[u8]) -> Reply {
+        Model.first_difference(a, b)
+    }
+
+    fn widen(&self, line: &[u8], out: &mut [u8]) -> u8 {
+        Model.widen(line, out)
+    }
+
+    fn make_pointer(&self, block: u32, start: u32) -> Reply {
+        Model.make_pointer(block, start)
+    }
+
+    fn read_pointer(&self, word: u16) -> Reply {
+        Model.read_pointer(word)
+    }
+
+    fn roll(&self, old: u8, new: u8) -> i8 {
+        Model.roll(old, new)
+    }
+
+    fn reach(&self, ask: &Ask) -> Reply {
+        Model.reach(ask)
+    }
+}
+
+impl Faulty {
+    /// Makes the step soundly, then alters what the fault alters.
+    fn altered_step(&self, board: &mut Board, step: Numbers, ram: &mut [u8], stream: &[u8]) -> Reply {
+        let before = *board;
+        let missed = self.missed_notes(&before, step, ram);
+        let reply = Model.step(board, step, ram, stream);
+        if reply.refusal() != 0 {
+            return reply;
+        }
+        match (self.0, step.kind) {
+            (1, 4) if step.number == 0xF8 => board.clock.counter = 0,
+            (4, 3) => {
+                let (read, write) = model::blocks(board.sizes, &board.paging, step.number as usize >> 14);
+                if read != write && before.dirty != board.dirty {
+                    let lines = model::lines_using(&before, ram, read, step.number as u16 & 0x3FFF);
+                    board.dirty = before.dirty.or(&lines);
+                }
+            }
+            (6, 7) => board.dirty = before.dirty,
+            (7, 6) => {
+                let tick = board.clock.beam % 52 == 3;
+                board.clock.counter = (before.clock.counter + tick as u8).min(15);
+            }
+            (8, _) if reply.nmi() => board.disc.route = ROUTE_NMI,
+            (13, 3) | (13, 7) | (14, 3) | (14, 7) | (15, 3) | (15, 7) => board.dirty = missed,
+            (16, 5) if step.number == 0xF8 && step.value & 15 == 1 => board.boot.at = before.boot.at,
+            _ => {}
+        }
+        Answer { int: board.int(), ..reply.into() }.into()
+    }
+
+    /// The notes after a store under the faults that alter them.
+    fn missed_notes(&self, before: &Board, step: Numbers, ram: &[u8]) -> Lines {
+        if !before.good() || ram.len() != before.sizes.ram_bytes() {
+            return before.dirty;
+        }
+        let (block, place) = match step.kind {
+            3 => (
+                model::blocks(before.sizes, &before.paging, step.number as usize >> 14 & 3).1,
+                step.number as u16 & 0x3FFF,
+            ),
+            _ => (3, 0x3FF0 + (step.number as u16 & 15)),
+        };
+        let at = block as usize * BLOCK + place as usize;
+        let touched = model::lines_using(before, ram, block, place);
+        let added = match self.0 {
+            13 => touched,
+            _ if ram[at] as u32 == step.value => Lines::default(),
+            14 if at.wrapping_sub(model::table_place(&before.video)) < 512 => Lines::default(),
+            15 => touched.and(&unwrapped(before, ram, place)),
+            _ => touched,
+        };
+        before.dirty.or(&added)
+    }
+
+    /// Spoils drawn lines as the fault has it.
+    fn spoil(&self, board: &Board, lines: &Lines, ram: &[u8], picture: &mut [u8]) {
+        debug_assert_eq!(picture.len(), PICTURE);
+        let off = board.video.control & ENABLE == 0;
+        match self.0 {
+            3 if !off => {
+                (0..=255).filter(|&line| lines.has(line)).for_each(|line| without_gaps(board, ram, line, picture))
+            }
+            5 if off => (0..=255).filter(|&line| lines.has(line)).for_each(|line| {
+                let at = line as usize * LINE_BYTES;
+                picture[at..at + LINE_BYTES].fill(0);
+            }),
+            12 if !board.is_50_hz() && lines.has(199) => {
+                let at = 200 * LINE_BYTES;
+                picture.copy_within(at - LINE_BYTES..at, at);
+            }
+            _ => {}
+        }
+    }
+}
+
+/// The lines that reach a place without running over the end of their block.
+fn unwrapped(board: &Board, ram: &[u8], place: u16) -> Lines {
+    (0..=255)
+        .filter(|&line| pointer(board, ram, line).start <= place)
+        .fold(Lines::default(), |lines, line| lines.or(&Lines::single(line)))
+}
+
+fn pointer(board: &Board, ram: &[u8], line: u8) -> Pointer {
+    let entry = model::table_place(&board.video) + 2 * board.video.top.wrapping_add(line) as usize;
+    model::read_pointer(u16::from_le_bytes([ram[entry], ram[entry + 1]]))
+}
+
+fn bank_order_locks(board: &mut Board, step: Numbers, ram: &mut [u8], stream: &[u8]) -> Reply {
+    let lock = board.paging.lock;
+    // Bank order would be D7 for C000h down to D4 for 0000h.
+    let moved = lock & 0x8F | (lock & 0x40) >> 1 | (lock & 0x20) >> 1 | (lock & 0x10) << 2;
+    if !matches!(step.kind, 1 | 2) {
+        return Model.step(board, step, ram, stream);
+    }
+    board.paging.lock = moved;
+    let reply = Model.step(board, step, ram, stream);
+    board.paging.lock = lock;
+    reply
+}
+
+fn without_gaps(board: &Board, ram: &[u8], line: u8, picture: &mut [u8]) {
+    let pointer = pointer(board, ram, line);
+    let invert = if board.video.control & REVERSE != 0 { 0xFF } else { 0 };
+    let at = line as usize * LINE_BYTES;
+    for (index, byte) in picture[at..at + LINE_BYTES].iter_mut().enumerate() {
+        let place = (pointer.start as usize + index) % BLOCK;
+        *byte = ram[pointer.block as usize * BLOCK + place] ^ invert;
+    }
+}

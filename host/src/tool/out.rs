@@ -1,0 +1,14 @@
+//! Standard output. A reader that has gone away ends the tool without a fuss.
+
+use std::io::{self, Write};
+
+/// Writes text; a failure is an error of the tool.
+pub fn write(text: &str) -> Result<(), String> {
+    let mut out = io::stdout().lock();
+    out.write_all(text.as_bytes()).and_then(|()| out.flush()).map_err(|error| format!("standard output: {error}"))
+}
+
+/// Writes a line.
+pub fn line(text: &str) -> Result<(), String> {
+    write(&format!("{text}\n"))
+}

@@ -1,0 +1,67 @@
+//! Pictures in files: PBM P4 of 720 x 256, or the 23,040 bytes by themselves.
+
+use joyce::record::PICTURE;
+
+const HEADER: &[u8] = b"P4\n720 256\n";
+
+/// A picture as PBM. A lit pixel is a 1, which PBM viewers show as ink.
+pub fn encode(picture: &[u8]) -> Vec<u8> {
+    [HEADER, picture].concat()
+}
+
+/// The picture in a file, either form.
+pub fn decode(bytes: &[u8]) -> Result<Vec<u8>, String> {
+    if bytes.len() == PICTURE {
+        return Ok(bytes.to_vec());
+    }
+    if !bytes.starts_with(b"P4") {
+        return Err(format!("{} bytes: neither a PBM P4 file nor a raw picture of {PICTURE} bytes", bytes.len()));
+    }
+    let (width, at) = number(bytes, 2)?;
+    let (height, at) = number(bytes, at)?;
+    if (width, height) != (720, 256) {
+        return Err(format!("a PBM of {width} x {height}, not 720 x 256"));
+    }
+    // One white-space byte stands between the height and the pixels.
+    let pixels = bytes.get(at + 1..).unwrap_or_default();
+    if pixels.len() != PICTURE {
+        return Err(format!("a PBM with {} bytes of pixels, not {PICTURE}", pixels.len()));
+    }
+    Ok(pixels.to_vec())
+}
+
+/// The number at or after a place, over white space and comments, and the place behind it.
+fn number(bytes: &[u8], mut at: usize) -> Result<(u32, usize), String> {
+    while let Some(&byte) = bytes.get(at) {
+        match byte {
+            b'#' => at += bytes[at..].iter().position(|&b| b == b'\n').unwrap_or(bytes.len() - at),
+            _ if byte.is_ascii_whitespace() => at += 1,
+            _ => break,
+        }
+    }
+    let digits = bytes[at..].iter().take_while(|byte| byte.is_ascii_digit()).count();
+    let text = String::from_utf8_lossy(&bytes[at..at + digits]);
+    let number = text.parse().map_err(|_| "a PBM header without width and height".to_string())?;
+    Ok((number, at + digits))
+}
+
+#[cfg(test)]
+mod tests {
+    use super::*;
+
+    #[test]
+    fn there_and_back() {
+        let picture: Vec<u8> = (0..PICTURE).map(|at| (at * 7) as u8).collect();
+        assert_eq!(decode(&encode(&picture)).unwrap(), picture);
+        assert_eq!(decode(&picture).unwrap(), picture);
+        let commented = [b"P4 # page\n720\n256 ".as_slice(), &picture].concat();
+        assert_eq!(decode(&commented).unwrap(), picture);
+    }
+
+    #[test]
+    fn refuses_what_is_not_a_picture() {
+        for bytes in [b"".as_slice(), b"P4", b"P4\n720 256\n", b"P4\n8 8\n", b"P4 #", b"P1\n1 1\n1"] {
+            assert!(decode(bytes).is_err());
+        }
+    }
+}

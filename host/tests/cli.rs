@@ -1,0 +1,137 @@
+//! The tool as a user meets it.
+
+use std::fs;
+use std::io::Write;
+use std::path::PathBuf;
+use std::process::{Command, Output, Stdio};
+
+const PICTURE: usize = 23_040;
+
+/// A folder of its own for each test.
+fn folder(name: &str) -> PathBuf {
+    let folder = PathBuf::from(env!("CARGO_TARGET_TMPDIR")).join(name);
+    let _ = fs::remove_dir_all(&folder);
+    fs::create_dir_all(&folder).expect("a folder");
+    folder
+}
+
+fn joyce(folder: &PathBuf, arguments: &[&str]) -> Output {
+    Command::new(env!("CARGO_BIN_EXE_joyce")).args(arguments).current_dir(folder).output().expect("the tool runs")
+}
+
+fn said(output: &Output) -> String {
+    String::from_utf8_lossy(&output.stdout).into_owned()
+}
+
+fn complained(output: &Output, of: &str) {
+    let text = String::from_utf8_lossy(&output.stderr).into_owned();
+    assert_eq!(output.status.code(), Some(2), "{text}");
+    assert!(text.contains(of), "{text}");
+}
+
+fn reach(input: &[u8]) -> String {
+    let mut child = Command::new(env!("CARGO_BIN_EXE_joyce"))
+        .arg("reach")
+        .stdin(Stdio::piped())
+        .stdout(Stdio::piped())
+        .spawn()
+        .expect("the tool runs");
+    child.stdin.take().expect("a pipe").write_all(input).expect("input taken");
+    let output = child.wait_with_output().expect("the tool ends");
+    assert!(output.status.success());
+    said(&output)
+}
+
+#[test]
+fn reach_list() {
+    let sample = [
+        0x10, 0x10, 0x80, 0x25, 0x98, 0x87, 0x00, 0x00, 0x80, 0x10, 0x10, 0x80, 0x25, 0x98, 0x87, 0x00, 0x05, 0x40,
+        0x10,
+    ];
+    assert_eq!(reach(&sample), "REACH\nR 08 0000 W 08 0000\nR 02 0005 W 05 0005\nX 2\n");
+    assert_eq!(reach(&[]), "REACH\n");
+    assert_eq!(
+        reach(&[8, 8, 0, 0, 0, 0x87, 0, 0xFF, 0xFF, 8, 7, 0, 0, 0, 0, 0, 0, 0]),
+        "REACH\nR 07 3FFF W 07 3FFF\nX 6\n"
+    );
+}
+
+#[test]
+fn demo_writes_a_picture_and_counts_lines() {
+    let folder = folder("demo");
+    let output = joyce(&folder, &["demo", "-o", "page.pbm"]);
+    assert!(output.status.success());
+    let page = fs::read(folder.join("page.pbm")).expect("the picture");
+    assert_eq!(page.len(), 11 + PICTURE);
+    assert!(page.starts_with(b"P4\n720 256\n"));
+    let text = said(&output);
+    for line in [
+        "put up: 256 lines, 23040 bytes",
+        "enters a line: 8 lines, 720 bytes down the cable, 22320 saved",
+        "300 ticks counted: 0 lines",
+        "rolls up by 8 lines: 256 lines",
+        "as they stand: 0 lines",
+    ] {
+        assert!(text.contains(line), "{line} in {text}");
+    }
+    assert_eq!(fs::read_dir(&folder).expect("the folder").count(), 1);
+}
+
+#[test]
+fn render_draws_the_ram() {
+    let folder = folder("render");
+    let mut ram = vec![0u8; 9 * 16_384];
+    // Line 1 of table 0, top line FFh: entry 0 names block 1, start 0.
+    ram[..2].copy_from_slice(&[0x00, 0x20]);
+    ram[16_384] = 0xA5;
+    fs::write(folder.join("ram"), &ram).expect("the RAM");
+    let output =
+        joyce(&folder, &["render", "ram", "--f5", "00", "--f6", "FF", "--f7", "C0", "--rate", "60", "-o", "a.pbm"]);
+    assert!(output.status.success());
+    let picture = fs::read(folder.join("a.pbm")).expect("the picture").split_off(11);
+    assert_eq!(picture[90], 0x5A);
+    assert_eq!(picture[199 * 90 + 5], 0xFF);
+    assert_eq!(picture[200 * 90], 0);
+}
+
+#[test]
+fn diff_finds_the_place() {
+    let folder = folder("diff");
+    let mut picture = vec![0u8; PICTURE];
+    fs::write(folder.join("a"), &picture).expect("a");
+    picture[90 * 3 + 2] = 1;
+    fs::write(folder.join("b"), [b"P4\n720 256\n".as_slice(), &picture].concat()).expect("b");
+    assert!(joyce(&folder, &["diff", "a", "a"]).status.success());
+    let output = joyce(&folder, &["diff", "a", "b"]);
+    assert_eq!(output.status.code(), Some(1));
+    assert_eq!(said(&output), "they differ first at line 3, pixel 23\n");
+}
+
+#[test]
+fn errors_are_clear_and_leave_nothing() {
+    let folder = folder("errors");
+    fs::write(folder.join("short"), [0; 100]).expect("a file");
+    complained(&joyce(&folder, &[]), "no command");
+    complained(&joyce(&folder, &["paint"]), "unknown command paint");
+    complained(&joyce(&folder, &["diff", "short", "gone"]), "short: 100 bytes");
+    complained(&joyce(&folder, &["diff", "short"]), "expected two pictures");
+    complained(&joyce(&folder, &["render", "gone"]), "gone:");
+    complained(&joyce(&folder, &["render", "short"]), "short: a RAM of 100 bytes");
+    complained(&joyce(&folder, &["render", "short", "--f5", "1G"]), "--f5: 1G is not a byte in hex");
+    complained(&joyce(&folder, &["render", "short", "--rate", "55"]), "--rate: 55");
+    complained(&joyce(&folder, &["render", "short", "--colour", "1"]), "unknown flag --colour");
+    complained(&joyce(&folder, &["demo", "-o"]), "-o needs a value");
+    complained(&joyce(&folder, &["demo", "-o", "no/such/folder.pbm"]), "no/such/folder.pbm:");
+    complained(&joyce(&folder, &["fuzz", "--calls", "many"]), "--calls: many is not a number");
+    complained(&joyce(&folder, &["bench", "--ms", "0"]), "--ms");
+    assert_eq!(fs::read_dir(&folder).expect("the folder").count(), 1);
+    assert!(said(&joyce(&folder, &["help"])).contains("joyce reach"));
+}
+
+#[test]
+fn fuzz_is_told_its_seed() {
+    let folder = folder("fuzz");
+    let output = joyce(&folder, &["fuzz", "--calls", "3000", "--seed", "5"]);
+    assert!(output.status.success());
+    assert!(said(&output).contains("no difference: 3000 calls in lists (seed 5)"));
+}

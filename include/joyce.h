@@ -1,0 +1,170 @@
+/* The Joyce main board: paging, lent RAM, channels, timer, beam, interrupt lines, keyboard table
+ * and picture. C11 and C++.
+ *
+ * Every input is taken: any bytes in a record, any length, any number. What a function does not
+ * accept it refuses with a number, and then it changes nothing: not the record, not lent memory.
+ * Lent memory must be there for the length given, must not overlap, and is not kept.
+ */
+#ifndef JOYCE_H
+#define JOYCE_H
+
+#include <stddef.h>
+#include <stdint.h>
+
+#ifdef __cplusplus
+#define JOYCE_ASSERT(what) static_assert(what, #what)
+extern "C" {
+#else
+#define JOYCE_ASSERT(what) _Static_assert(what, #what)
+#endif
+
+#define JOYCE_BLOCK 16384u        /* bytes in a block; RAM is lent as total x 16,384 bytes */
+#define JOYCE_LINE 90u            /* bytes in a line, leftmost pixel in the top bit */
+#define JOYCE_WIDE_LINE 180u      /* bytes in a widened line */
+#define JOYCE_PICTURE 23040u      /* bytes in a picture: 256 lines of 90 */
+#define JOYCE_STREAM 1024u        /* the longest boot stream */
+
+/* Refusal numbers, checked in this order; the first that applies is given. */
+enum {
+    JOYCE_ACCEPTED = 0,
+    JOYCE_BAD_SIZES = 6,          /* power-on sizes not allowed, or a rate other than 50 or 60 */
+    JOYCE_BAD_RECORD = 1,         /* the record is not good */
+    JOYCE_BAD_LENGTH = 2,         /* a lent buffer has the wrong length */
+    JOYCE_BAD_NUMBER = 3,         /* a number out of range, or given where none is taken */
+    JOYCE_STREAM_ENDED = 4,       /* fetch in boot mode, stream place at or past the stream's end */
+    JOYCE_NO_CHANNEL = 5          /* not a channel of this board */
+};
+
+/* Kinds of step. */
+enum {
+    JOYCE_FETCH = 1,              /* number: address */
+    JOYCE_READ = 2,               /* number: address */
+    JOYCE_WRITE = 3,              /* number: address; value */
+    JOYCE_IN = 4,                 /* number: channel */
+    JOYCE_OUT = 5,                /* number: channel; value */
+    JOYCE_SCAN = 6,
+    JOYCE_KEYBOARD = 7,           /* number: offset 0 to 15; value */
+    JOYCE_DISC_LINE = 8,          /* value: 0 off, 1 on */
+    JOYCE_EXTERNAL_LINE = 9       /* value: 0 off, 1 on */
+};
+
+enum { JOYCE_ROUTE_NONE = 0, JOYCE_ROUTE_NMI = 1, JOYCE_ROUTE_INT = 2 };
+
+/* The record. Flags are 0 or 1. A good record has each field in range, no note on an unshown line,
+ * and never route NMI with the disc line on. Power-on and every call hand back good records only,
+ * if they are given good ones. */
+typedef struct { uint8_t internal, total; } joyce_sizes;                        /* blocks */
+typedef struct { uint8_t maps[4]; uint8_t lock; } joyce_paging;                 /* F0 to F3, F4 */
+typedef struct { uint8_t table, top, control; } joyce_video;                    /* F5, F6, F7 */
+typedef struct { uint8_t counter; uint16_t beam; } joyce_clock;                 /* 0 to 15; 0 to 311 or 259 */
+typedef struct { uint8_t mode; uint16_t at; } joyce_boot;                       /* at: 0 to 1,024 */
+typedef struct { uint8_t route, line, terminal_count, motor; } joyce_disc;
+typedef struct { uint64_t words[4]; } joyce_lines;                              /* line L: bit L % 64 of words[L / 64] */
+typedef struct {
+    joyce_sizes sizes;
+    uint8_t rate;                                                               /* 50 or 60 */
+    joyce_paging paging;
+    joyce_video video;
+    joyce_clock clock;
+    joyce_boot boot;
+    joyce_disc disc;
+    uint8_t external, driven, bleeper;
+    joyce_lines dirty;                                                          /* the notes */
+} joyce_board;
+
+JOYCE_ASSERT(sizeof(joyce_sizes) == 2);
+JOYCE_ASSERT(sizeof(joyce_paging) == 5);
+JOYCE_ASSERT(sizeof(joyce_video) == 3);
+JOYCE_ASSERT(sizeof(joyce_clock) == 4);
+JOYCE_ASSERT(offsetof(joyce_clock, beam) == 2);
+JOYCE_ASSERT(sizeof(joyce_boot) == 4);
+JOYCE_ASSERT(offsetof(joyce_boot, at) == 2);
+JOYCE_ASSERT(sizeof(joyce_disc) == 4);
+JOYCE_ASSERT(sizeof(joyce_lines) == 32);
+JOYCE_ASSERT(sizeof(joyce_board) == 64);
+JOYCE_ASSERT(offsetof(joyce_board, sizes) == 0);
+JOYCE_ASSERT(offsetof(joyce_board, rate) == 2);
+JOYCE_ASSERT(offsetof(joyce_board, paging) == 3);
+JOYCE_ASSERT(offsetof(joyce_board, video) == 8);
+JOYCE_ASSERT(offsetof(joyce_board, clock) == 12);
+JOYCE_ASSERT(offsetof(joyce_board, boot) == 16);
+JOYCE_ASSERT(offsetof(joyce_board, disc) == 20);
+JOYCE_ASSERT(offsetof(joyce_board, external) == 24);
+JOYCE_ASSERT(offsetof(joyce_board, driven) == 25);
+JOYCE_ASSERT(offsetof(joyce_board, bleeper) == 26);
+JOYCE_ASSERT(offsetof(joyce_board, dirty) == 32);
+
+/* Powers a board on: boot mode, stream place 0, route none, terminal count on, driven, motor and
+ * bleeper off, counter 0, F7 = 0, beam 0, both lines off, all shown lines noted; the rest as given.
+ * internal is 8, 16 or 32, total from internal to 128, rate 50 or 60; otherwise refusal 6 and a
+ * record of zeros. */
+uint64_t joyce_power_on(joyce_board *board, uint8_t internal, uint8_t total, uint8_t rate,
+                        uint8_t f0, uint8_t f1, uint8_t f2, uint8_t f3, uint8_t lock,
+                        uint8_t f5, uint8_t f6);
+
+/* Makes one step on the record and the RAM. Reply: byte (0 where there is none), INT, NMI, passed
+ * on, refusal 1 to 5. A step notes a shown line exactly if F5, F6, or D7 or D6 of F7 comes to
+ * differ, or the line's pointer word, or one of the 90 bytes named by its pointer before. NMI is
+ * shown once; the route is none afterwards. After a refusal the lines are those of the record, off
+ * for 1. The stream is at most 1,024 bytes and only read by a fetch in boot mode. */
+uint64_t joyce_step(joyce_board *board, uint32_t kind, uint32_t number, uint32_t value,
+                    uint8_t *ram, size_t ram_len, const uint8_t *boot, size_t boot_len);
+
+/* Writes all shown lines of the picture (256 on 50 Hz, 200 on 60 Hz) and no other byte; the record
+ * stays. Reply: floats, refusal 1 or 2. */
+uint64_t joyce_draw(const joyce_board *board, const uint8_t *ram, size_t ram_len,
+                    uint8_t *picture, size_t picture_len);
+
+/* Writes the noted lines of the picture, as draw would, and no other byte; clears the notes.
+ * Reply: count (the number of notes before), floats, refusal 1 or 2. */
+uint64_t joyce_refresh(joyce_board *board, const uint8_t *ram, size_t ram_len,
+                       uint8_t *picture, size_t picture_len);
+
+/* The first noted line at or after n (0 to 255). Reply: found, line, refusal 1 or 3. */
+uint64_t joyce_next_noted(const joyce_board *board, uint32_t n);
+
+/* The first place, in reading order, where two pictures differ. Reply: found, line, pixel (0 to
+ * 719), refusal 2. All 256 lines count. */
+uint64_t joyce_first_difference(const uint8_t *a, size_t a_len, const uint8_t *b, size_t b_len);
+
+/* Widens one line of 90 bytes to 180, each pixel twice. Gives the refusal number itself: 0 or 2. */
+uint8_t joyce_widen(const uint8_t *line, size_t line_len, uint8_t *out, size_t out_len);
+
+/* The pointer word of a block (0 to 7) and a start (0 to 16,383, bit 3 clear). Reply: word,
+ * refusal 3. Reading the word gives block and start back. */
+uint64_t joyce_make_pointer(uint32_t block, uint32_t start);
+
+/* Block and start of any pointer word. Reply: block, start; never refused. */
+uint64_t joyce_read_pointer(uint16_t word);
+
+/* The number from -128 to 127 that added to the old top line gives the new one, mod 256. */
+int8_t joyce_roll(uint8_t old_top, uint8_t new_top);
+
+/* Where an access lands under these sizes, maps and lock. Reply: place, read block, write block;
+ * refusal 6 for sizes not allowed. */
+uint64_t joyce_reach(uint8_t internal, uint8_t total, uint8_t f0, uint8_t f1, uint8_t f2,
+                     uint8_t f3, uint8_t lock, uint16_t address);
+
+/* The parts of a reply. Each is 0 where there is none. */
+static inline uint8_t joyce_byte(uint64_t reply) { return (uint8_t)reply; }            /* of a step */
+static inline uint16_t joyce_count(uint64_t reply) { return (uint16_t)reply; }         /* of a refresh */
+static inline int joyce_int(uint64_t reply) { return (int)(reply >> 16 & 1); }
+static inline int joyce_nmi(uint64_t reply) { return (int)(reply >> 17 & 1); }
+static inline int joyce_forwarded(uint64_t reply) { return (int)(reply >> 18 & 1); }   /* passed on to the host */
+static inline int joyce_floats(uint64_t reply) { return (int)(reply >> 19 & 1); }
+static inline int joyce_found(uint64_t reply) { return (int)(reply >> 20 & 1); }       /* a line or place was found */
+static inline uint8_t joyce_line(uint64_t reply) { return (uint8_t)reply; }
+static inline uint16_t joyce_pixel(uint64_t reply) { return (uint16_t)(reply >> 40); }
+static inline uint8_t joyce_refusal(uint64_t reply) { return (uint8_t)(reply >> 32); }
+static inline uint8_t joyce_read_block(uint64_t reply) { return (uint8_t)(reply >> 40); }   /* of a reach */
+static inline uint8_t joyce_write_block(uint64_t reply) { return (uint8_t)(reply >> 48); }  /* of a reach */
+static inline uint16_t joyce_place(uint64_t reply) { return (uint16_t)reply; }         /* of a reach */
+static inline uint16_t joyce_word(uint64_t reply) { return (uint16_t)reply; }          /* of a made pointer */
+static inline uint8_t joyce_block(uint64_t reply) { return (uint8_t)(reply >> 40); }   /* of a read pointer */
+static inline uint16_t joyce_start(uint64_t reply) { return (uint16_t)reply; }         /* of a read pointer */
+
+#ifdef __cplusplus
+}
+#endif
+
+#endif
