@@ -9,6 +9,14 @@ use Rattle.paging.specs.declared.Paging.{Paging}
 use Rattle.paging.specs.Memory.{allowed, placeOf, readBlock, writeBlock}
 use Rattle.pointers.specs.declared.Made.{Made}
 use Rattle.pointers.specs.declared.Pointer.{Pointer}
+use Rattle.lineset.specs.declared.Line.{Line}
+use Rattle.lineset.specs.declared.Line.the-variants.{At, Nothing}
+use Rattle.picture.specs.declared.paint.Drawn.{Drawn}
+use Rattle.picture.specs.declared.paint.Refreshed.{Refreshed}
+use Rattle.picture.specs.declared.search.Noted.{Noted}
+use Rattle.picture.specs.declared.search.Place.{Place}
+use Rattle.picture.specs.declared.search.Place.the-variants.{Pixel, Same}
+use Rattle.picture.specs.declared.search.Difference.{Difference}
 use Rattle.board.specs.declared.power.Started.{Started}
 use Rattle.steps.specs.declared.answers.Answer.{Answer}
 use Rattle.steps.specs.declared.answers.Step.{Step}
@@ -28,6 +36,28 @@ reply value flags refusal more = value + (65536 * flags + (4294967296 * refusal 
 
 unfoldable pub stepReply : Answer → ℕ
 stepReply a = reply (a .byte) (boolByte (a .int) + (2 * boolByte (a .nmi) + 4 * boolByte (a .forwarded))) (a .refusal) 0
+
+unfoldable pub drawReply : Drawn → ℕ
+drawReply d = reply 0 (8 * boolByte (d .floating)) (d .refusal) 0
+
+unfoldable pub refreshReply : Refreshed → ℕ
+refreshReply r = reply (r .count) (8 * boolByte (r .floating)) (r .refusal) 0
+
+-- a line found, or none
+unfoldable pub lineReply : Line → ℕ → ℕ
+lineReply (At line) refusal = reply line 16 refusal 0
+lineReply Nothing refusal = reply 0 0 refusal 0
+
+unfoldable pub nextReply : Noted → ℕ
+nextReply n = lineReply (n .line) (n .refusal)
+
+-- a line and a pixel of it, or none
+unfoldable pub placeReply : Place → ℕ → ℕ
+placeReply (Pixel line pixel) refusal = reply line 16 refusal pixel
+placeReply Same refusal = reply 0 0 refusal 0
+
+unfoldable pub differenceReply : Difference → ℕ
+differenceReply d = placeReply (d .place) (d .refusal)
 
 unfoldable pub startReply : Started → ℕ
 startReply s = reply 0 0 (s .refusal) 0

@@ -2,8 +2,12 @@
 ghost use mathlib.Core.Path.{_≡_};
 ghost use Rattle.steps.specs.Steps.{stepAnswer, stepRam};
 ghost use Rattle.board.specs.Power.{started};
-ghost use Rattle.firmware.specs.Replies.{stepReply, startReply, asked, sizesOf, pagingOf};
+ghost use Rattle.firmware.specs.Replies.{stepReply, startReply, asked, sizesOf, pagingOf, drawReply, refreshReply, nextReply};
+ghost use Rattle.picture.specs.Pictures.{drawAnswer, drawPicture, refreshAnswer, refreshPicture, nextAnswer};
+use crate::replies::drew;
+use crate::replies::noted;
 use crate::replies::powered;
+use crate::replies::redrew;
 use crate::replies::replied;
 use board::Board;
 
@@ -42,4 +46,27 @@ pub extern "C" fn joyce_power_on(
     let a = powered(*b, internal, total, rate, f0, f1, f2, f3, lock, f5, f6);
     *b = a.board;
     a.word
+}
+
+#[no_mangle]
+pub extern "C" fn joyce_draw(b: &Board, ram: &[u8], picture: &mut [u8]) -> u64
+    ensures { λ r. ⌜ (r ≡ drawReply (drawAnswer (now (b .entry)) (now (ram .entry)) (now (picture .entry)))) × (now (picture .exit) ≡ drawPicture (now (b .entry)) (now (ram .entry)) (now (picture .entry))) ⌝ }
+{
+    drew(*b, ram, picture)
+}
+
+#[no_mangle]
+pub extern "C" fn joyce_refresh(b: &mut Board, ram: &[u8], picture: &mut [u8]) -> u64
+    ensures { λ r. ⌜ (r ≡ refreshReply (refreshAnswer (now (b .entry)) (now (ram .entry)) (now (picture .entry)))) × ((now (b .exit) ≡ refreshAnswer (now (b .entry)) (now (ram .entry)) (now (picture .entry)) .board) × (now (picture .exit) ≡ refreshPicture (now (b .entry)) (now (ram .entry)) (now (picture .entry)))) ⌝ }
+{
+    let a = redrew(*b, ram, picture);
+    *b = a.board;
+    a.word
+}
+
+#[no_mangle]
+pub extern "C" fn joyce_next_noted(b: &Board, n: u32) -> u64
+    ensures { λ r. ⌜ r ≡ nextReply (nextAnswer (now (b .entry)) n) ⌝ }
+{
+    noted(*b, n)
 }

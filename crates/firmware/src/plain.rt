@@ -4,7 +4,9 @@ ghost use lib.ListN.{length};
 ghost use Rattle.panel.specs.Roll.{rollOf};
 ghost use Rattle.panel.specs.Widen.{widenRefusal, widenedOut};
 ghost use Rattle.pointers.specs.Pointers.{pointerOf, madePointer};
-ghost use Rattle.firmware.specs.Replies.{madeReply, pointerReply, reachReply, sizesOf, pagingOf};
+ghost use Rattle.firmware.specs.Replies.{madeReply, pointerReply, reachReply, differenceReply, sizesOf, pagingOf};
+ghost use Rattle.picture.specs.Pictures.{differenceAnswer};
+use crate::replies::differs;
 use crate::replies::reply;
 use paging::Paging;
 use paging::Sizes;
@@ -78,4 +80,12 @@ pub extern "C" fn joyce_reach(
     let read = p.read_block(sizes, address) as u16;
     let write = p.write_block(sizes, address) as u16;
     reply(paging::place(address), 0, 0, read + 256 * write)
+}
+
+// The first place where two pictures differ.
+#[no_mangle]
+pub extern "C" fn joyce_first_difference(a: &[u8], b: &[u8]) -> u64
+    ensures { λ r. ⌜ r ≡ differenceReply (differenceAnswer (now (a .entry)) (now (b .entry))) ⌝ }
+{
+    differs(a, b)
 }
