@@ -109,19 +109,23 @@ pub fn external_line(b: Board, on: bool, ram: &[u8], boot: &[u8]) -> Answer
     take_external_line(b, on, ram, boot)
 }
 
-// Any step by its kind.
+// Any step by its kind: record and buffers are checked once.
 pub fn step(b: Board, s: Step, ram: &mut [u8], boot: &[u8]) -> Answer
     ensures { λ r. ⌜ (r ≡ stepAnswer b (now (ram .entry)) (now (boot .entry)) s) × (now (ram .exit) ≡ stepRam b (now (ram .entry)) (now (boot .entry)) s) ⌝ }
 {
+    let n = lent(b, ram.len(), boot.len());
+    if n != 0 {
+        return refused(b, n);
+    }
     match s {
-        Step::Fetch(address) => fetch(b, address, ram, boot),
-        Step::Read(address) => data_read(b, address, ram, boot),
-        Step::Write(address, value) => data_write(b, address, value, ram, boot),
-        Step::PortIn(port) => port_in(b, port, ram, boot),
-        Step::PortOut(port, value) => port_out(b, port, value, ram, boot),
-        Step::Scan => scan(b, ram, boot),
-        Step::Key(offset, value) => keyboard_word(b, offset, value, ram, boot),
-        Step::DiscLine(on) => disc_line(b, on, ram, boot),
-        Step::ExternalLine(on) => external_line(b, on, ram, boot),
+        Step::Fetch(address) => take_fetch(b, address, ram, boot),
+        Step::Read(address) => take_read(b, address, ram, boot),
+        Step::Write(address, value) => take_write(b, address, value, ram, boot),
+        Step::PortIn(port) => take_port_in(b, port, ram, boot),
+        Step::PortOut(port, value) => take_port_out(b, port, value, ram, boot),
+        Step::Scan => take_scan(b, ram, boot),
+        Step::Key(offset, value) => take_key(b, offset, value, ram, boot),
+        Step::DiscLine(on) => take_disc_line(b, on, ram, boot),
+        Step::ExternalLine(on) => take_external_line(b, on, ram, boot),
     }
 }

@@ -1,179 +1,224 @@
--- Each kind is the step of that kind.
+-- Refused for record or buffers, or what the kind itself answers.
 -- Assumes nothing.
 use mathlib.Core.Path.{_≡_, refl, sym, _∙_, ap}
 use denote.Ref.{now}
-use Rattle.steps.specs.Steps.{stored}
-use Rattle.steps.proofs.Answering.{ram-kept}
+use lib.ListN.{length}
+use Rattle.board.proofs.Good.{good-counter}
+use Rattle.steps.specs.Steps.{stored, lentRefusal}
+use Rattle.steps.proofs.Answering.{ram-kept, step-refused, step-kept, step-own, step-own-ram, lent-boot, lent-good}
 use borrow.Author.Needs.{needs}
 use Rattle.steps.proofs.steps.step.Statement.{statement}
 use Rattle.steps.proofs.steps.step.Tie as tie
 
+none : (c : tie.Else1) → lentRefusal (c .before .before .before .before .args .b) (length (now (c .before .before .before .before .args .ram))) (length (now (c .before .before .before .before .args .boot))) ≡ 0
+none c = sym (c .before .lent .ensures) ∙ c .if1 .left
+
+lent-requires : tie.Need-lent-requires
+lent-requires c κs = search needs
+
+refused-requires : tie.Need-refused-requires
+refused-requires c κs = search needs
+
+returns : tie.Need-returns
+returns c =
+    let s = c .before .before .before .before .before in (
+      c .refused .ensures
+          ∙ step-refused (s .args .b) (now (s .args .ram)) (now (s .args .boot)) (s .args .s) (c .before .before .lent .result) (sym (c .before .before .lent .ensures)) (c .before .if1 .taken),
+      step-kept (s .args .b) (now (s .args .ram)) (now (s .args .boot)) (s .args .s) (c .before .before .lent .result) (sym (c .before .before .lent .ensures)) (c .before .if1 .taken),
+    )
+
 enum-known-s : tie.Need-enum-known-s
 enum-known-s c = search needs
 
-fetch-requires : tie.Need-fetch-requires
-fetch-requires c κs = search needs
+take-fetch-requires : tie.Need-take-fetch-requires
+take-fetch-requires c κs =
+    let s = c .before .before .before .before .before .before .before .before in
+    lent-boot (s .args .b) (length (now (s .args .ram))) (length (now (s .args .boot))) (none (c .before .before .before .before))
 
 enum-known-s-2 : tie.Need-enum-known-s-2
 enum-known-s-2 c = search needs
 
-data-read-requires : tie.Need-data-read-requires
-data-read-requires c κs = search needs
+take-read-requires : tie.Need-take-read-requires
+take-read-requires c κs = search needs
 
 enum-known-s-3 : tie.Need-enum-known-s-3
 enum-known-s-3 c = search needs
 
-data-write-requires : tie.Need-data-write-requires
-data-write-requires c κs = search needs
+take-write-requires : tie.Need-take-write-requires
+take-write-requires c κs = search needs
 
 enum-known-s-4 : tie.Need-enum-known-s-4
 enum-known-s-4 c = search needs
 
-port-in-requires : tie.Need-port-in-requires
-port-in-requires c κs = search needs
+take-port-in-requires : tie.Need-take-port-in-requires
+take-port-in-requires c κs =
+    let s = c .before .before .before .before .before .before .before .before in
+    good-counter (s .args .b) (lent-good (s .args .b) (length (now (s .args .ram))) (length (now (s .args .boot))) (none (c .before .before .before .before)))
 
 enum-known-s-5 : tie.Need-enum-known-s-5
 enum-known-s-5 c = search needs
 
-port-out-requires : tie.Need-port-out-requires
-port-out-requires c κs = search needs
+take-port-out-requires : tie.Need-take-port-out-requires
+take-port-out-requires c κs = search needs
 
 enum-told : tie.Need-enum-told
 enum-told c = search needs
 
-scan-requires : tie.Need-scan-requires
-scan-requires c κs = search needs
+take-scan-requires : tie.Need-take-scan-requires
+take-scan-requires c κs = search needs
 
 enum-known-s-6 : tie.Need-enum-known-s-6
 enum-known-s-6 c = search needs
 
-keyboard-word-requires : tie.Need-keyboard-word-requires
-keyboard-word-requires c κs = search needs
+take-key-requires : tie.Need-take-key-requires
+take-key-requires c κs = search needs
 
 enum-known-s-7 : tie.Need-enum-known-s-7
 enum-known-s-7 c = search needs
 
-disc-line-requires : tie.Need-disc-line-requires
-disc-line-requires c κs = search needs
+take-disc-line-requires : tie.Need-take-disc-line-requires
+take-disc-line-requires c κs = search needs
 
 enum-known-s-8 : tie.Need-enum-known-s-8
 enum-known-s-8 c = search needs
 
-external-line-requires : tie.Need-external-line-requires
-external-line-requires c κs = search needs
+take-external-line-requires : tie.Need-take-external-line-requires
+take-external-line-requires c κs = search needs
 
 same-length : tie.Need-same-length
 same-length c = search needs
 
-returns : tie.Need-returns
+returns-2 : tie.Need-returns-2
 unfolding stored
-returns c =
-    let b = c .before .before .before .before .before .before .before .args in
-    rw (c .before .before .before .s .given .1) (c .fetch .ensures, ram-kept (b .b) (now (b .ram)) (now (b .boot)) _ refl)
+returns-2 c =
+    let a = c .before .before .before .before .before .before .before .before .before .args in
+    let z = none (c .before .before .before .before .before) in
+    rw (c .before .before .before .s .given .1) (c .take-fetch .ensures ∙ step-own (a .b) (now (a .ram)) (now (a .boot)) _ z, ram-kept (a .b) (now (a .ram)) (now (a .boot)) _ refl)
 
 same-length-2 : tie.Need-same-length-2
 same-length-2 c = search needs
 
-returns-2 : tie.Need-returns-2
+returns-3 : tie.Need-returns-3
 unfolding stored
-returns-2 c =
-    let b = c .before .before .before .before .before .before .before .args in
-    rw (c .before .before .before .s2 .given .1) (c .data-read .ensures, ram-kept (b .b) (now (b .ram)) (now (b .boot)) _ refl)
+returns-3 c =
+    let a = c .before .before .before .before .before .before .before .before .before .args in
+    let z = none (c .before .before .before .before .before) in
+    rw (c .before .before .before .s2 .given .1) (c .take-read .ensures ∙ step-own (a .b) (now (a .ram)) (now (a .boot)) _ z, ram-kept (a .b) (now (a .ram)) (now (a .boot)) _ refl)
 
 same-length-3 : tie.Need-same-length-3
 same-length-3 c = search needs
 
-returns-3 : tie.Need-returns-3
-returns-3 c = rw (c .before .before .before .before .before .s3 .given .1) (c .before .before .data-write .ensures .0, c .before .before .data-write .ensures .1)
+returns-4 : tie.Need-returns-4
+returns-4 c =
+    let a = c .before .before .before .before .before .before .before .before .before .before .before .args in
+    let z = none (c .before .before .before .before .before .before .before) in
+    rw (c .before .before .before .before .before .s3 .given .1) (
+      c .before .before .take-write .ensures .0 ∙ step-own (a .b) (now (a .ram)) (now (a .boot)) _ z,
+      c .before .before .take-write .ensures .1 ∙ step-own-ram (a .b) (now (a .ram)) (now (a .boot)) _ z,
+    )
 
 same-length-4 : tie.Need-same-length-4
 same-length-4 c = search needs
 
-returns-4 : tie.Need-returns-4
+returns-5 : tie.Need-returns-5
 unfolding stored
-returns-4 c =
-    let b = c .before .before .before .before .before .before .before .args in
-    rw (c .before .before .before .s4 .given .1) (c .port-in .ensures, ram-kept (b .b) (now (b .ram)) (now (b .boot)) _ refl)
+returns-5 c =
+    let a = c .before .before .before .before .before .before .before .before .before .args in
+    let z = none (c .before .before .before .before .before) in
+    rw (c .before .before .before .s4 .given .1) (c .take-port-in .ensures ∙ step-own (a .b) (now (a .ram)) (now (a .boot)) _ z, ram-kept (a .b) (now (a .ram)) (now (a .boot)) _ refl)
 
 same-length-5 : tie.Need-same-length-5
 same-length-5 c = search needs
 
-returns-5 : tie.Need-returns-5
+returns-6 : tie.Need-returns-6
 unfolding stored
-returns-5 c =
-    let b = c .before .before .before .before .before .before .before .args in
-    rw (c .before .before .before .s5 .given .1) (c .port-out .ensures, ram-kept (b .b) (now (b .ram)) (now (b .boot)) _ refl)
+returns-6 c =
+    let a = c .before .before .before .before .before .before .before .before .before .args in
+    let z = none (c .before .before .before .before .before) in
+    rw (c .before .before .before .s5 .given .1) (c .take-port-out .ensures ∙ step-own (a .b) (now (a .ram)) (now (a .boot)) _ z, ram-kept (a .b) (now (a .ram)) (now (a .boot)) _ refl)
 
 same-length-6 : tie.Need-same-length-6
 same-length-6 c = search needs
 
-returns-6 : tie.Need-returns-6
+returns-7 : tie.Need-returns-7
 unfolding stored
-returns-6 c =
-    let b = c .before .before .before .before .before .before .args in
-    rw (c .before .before .enum-told .given .1) (c .scan .ensures, ram-kept (b .b) (now (b .ram)) (now (b .boot)) _ refl)
+returns-7 c =
+    let a = c .before .before .before .before .before .before .before .before .args in
+    let z = none (c .before .before .before .before) in
+    rw (c .before .before .enum-told .given .1) (c .take-scan .ensures ∙ step-own (a .b) (now (a .ram)) (now (a .boot)) _ z, ram-kept (a .b) (now (a .ram)) (now (a .boot)) _ refl)
 
 same-length-7 : tie.Need-same-length-7
 same-length-7 c = search needs
 
-returns-7 : tie.Need-returns-7
-returns-7 c = rw (c .before .before .before .before .before .s6 .given .1) (c .before .before .keyboard-word .ensures .0, c .before .before .keyboard-word .ensures .1)
+returns-8 : tie.Need-returns-8
+returns-8 c =
+    let a = c .before .before .before .before .before .before .before .before .before .before .before .args in
+    let z = none (c .before .before .before .before .before .before .before) in
+    rw (c .before .before .before .before .before .s6 .given .1) (
+      c .before .before .take-key .ensures .0 ∙ step-own (a .b) (now (a .ram)) (now (a .boot)) _ z,
+      c .before .before .take-key .ensures .1 ∙ step-own-ram (a .b) (now (a .ram)) (now (a .boot)) _ z,
+    )
 
 same-length-8 : tie.Need-same-length-8
 same-length-8 c = search needs
 
-returns-8 : tie.Need-returns-8
+returns-9 : tie.Need-returns-9
 unfolding stored
-returns-8 c =
-    let b = c .before .before .before .before .before .before .before .args in
-    rw (c .before .before .before .s7 .given .1) (c .disc-line .ensures, ram-kept (b .b) (now (b .ram)) (now (b .boot)) _ refl)
+returns-9 c =
+    let a = c .before .before .before .before .before .before .before .before .before .args in
+    let z = none (c .before .before .before .before .before) in
+    rw (c .before .before .before .s7 .given .1) (c .take-disc-line .ensures ∙ step-own (a .b) (now (a .ram)) (now (a .boot)) _ z, ram-kept (a .b) (now (a .ram)) (now (a .boot)) _ refl)
 
 same-length-9 : tie.Need-same-length-9
 same-length-9 c = search needs
 
-returns-9 : tie.Need-returns-9
+returns-10 : tie.Need-returns-10
 unfolding stored
-returns-9 c =
-    let b = c .before .before .before .before .before .before .before .args in
-    rw (c .before .before .before .s8 .given .1) (c .external-line .ensures, ram-kept (b .b) (now (b .ram)) (now (b .boot)) _ refl)
+returns-10 c =
+    let a = c .before .before .before .before .before .before .before .before .before .args in
+    let z = none (c .before .before .before .before .before) in
+    rw (c .before .before .before .s8 .given .1) (c .take-external-line .ensures ∙ step-own (a .b) (now (a .ram)) (now (a .boot)) _ z, ram-kept (a .b) (now (a .ram)) (now (a .boot)) _ refl)
 
 pub step-spec : {M : Type 1} → statement M
 step-spec =
     tie.close
     (tie.spec
-    enum-known-s
-    fetch-requires
-    enum-known-s-2
-    data-read-requires
-    enum-known-s-3
-    data-write-requires
-    enum-known-s-4
-    port-in-requires
-    enum-known-s-5
-    port-out-requires
-    enum-told
-    scan-requires
-    enum-known-s-6
-    keyboard-word-requires
-    enum-known-s-7
-    disc-line-requires
-    enum-known-s-8
-    external-line-requires
-    same-length
+    lent-requires
+    refused-requires
     returns
-    same-length-2
+    enum-known-s
+    take-fetch-requires
+    enum-known-s-2
+    take-read-requires
+    enum-known-s-3
+    take-write-requires
+    enum-known-s-4
+    take-port-in-requires
+    enum-known-s-5
+    take-port-out-requires
+    enum-told
+    take-scan-requires
+    enum-known-s-6
+    take-key-requires
+    enum-known-s-7
+    take-disc-line-requires
+    enum-known-s-8
+    take-external-line-requires
+    same-length
     returns-2
-    same-length-3
+    same-length-2
     returns-3
-    same-length-4
+    same-length-3
     returns-4
-    same-length-5
+    same-length-4
     returns-5
-    same-length-6
+    same-length-5
     returns-6
-    same-length-7
+    same-length-6
     returns-7
-    same-length-8
+    same-length-7
     returns-8
+    same-length-8
+    returns-9
     same-length-9
-    returns-9)
+    returns-10)
