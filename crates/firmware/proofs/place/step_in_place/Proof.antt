@@ -47,7 +47,7 @@ use denote.Exit.{yes}
 use Rattle.board.specs.declared.record.Board.{Board}
 use Rattle.firmware.specs.declared.place.Moved.{Moved}
 use Rattle.steps.specs.Steps.{stepAnswer, stepRam}
-use Rattle.firmware.specs.Replies.{toldOf}
+use Rattle.firmware.specs.Place.{toldOf}
 use Rattle.board.proofs.record.Board as T
 use Rattle.board.proofs.record.Board.Laws as T′
 use Rattle.steps.specs.declared.answers.Step.{Step}

@@ -7,7 +7,7 @@ use borrow.Author.Tests.{lt-ltb}
 use Rattle.pointers.specs.declared.Made.{Made}
 use Rattle.pointers.specs.declared.Pointer.{Pointer}
 use Rattle.pointers.proofs.Laws.{made-refused}
-use Rattle.firmware.specs.Replies.{madeReply}
+use Rattle.replies.specs.Replies.{madeReply}
 use borrow.Author.Needs.{needs}
 use Rattle.firmware.proofs.plain.joyce_make_pointer.Statement.{statement}
 use Rattle.firmware.proofs.plain.joyce_make_pointer.Tie as tie

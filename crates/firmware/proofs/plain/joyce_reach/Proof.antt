@@ -4,7 +4,7 @@ use mathlib.Core.Path.{_≡_, refl, sym, _∙_, ap}
 use mathlib.Core.Bool.{true, false}
 use borrow.Author.Tests.{not-true, not-false}
 use Rattle.paging.specs.Memory.{allowed}
-use Rattle.firmware.specs.Replies.{reachReply, sizesOf}
+use Rattle.replies.specs.Replies.{reachReply, sizesOf}
 use borrow.Author.Needs.{needs}
 use Rattle.firmware.proofs.plain.joyce_reach.Statement.{statement}
 use Rattle.firmware.proofs.plain.joyce_reach.Tie as tie
