@@ -1,10 +1,9 @@
 -- The bench cases of document 01, shown of the rules themselves: one list, one statement.
 use Prim.Native.Nat.{ℕ, _+_, _*_}
 use mathlib.Core.Path.{_≡_, refl}
-use mathlib.Core.Bool.{Bool, true, false}
+use mathlib.Core.Bool.{false}
 use mathlib.Core.List.{List, [], _∷_}
-use lib.IntN.{ℤ, pos, negsuc, _-ℤ_}
-use Rattle.lineset.specs.Lines.{any}
+use lib.IntN.{ℤ, pos, _-ℤ_}
 use Rattle.paging.specs.declared.Sizes.{Sizes}
 use Rattle.paging.specs.declared.Paging.{Paging}
 use Rattle.paging.specs.Memory.{bankOf, placeOf, lockWeight, locked, expansion, mapWrite, mapRead, readBlock, writeBlock}

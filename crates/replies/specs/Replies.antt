@@ -1,7 +1,7 @@
 -- What the C functions take and give: results packed in one number, and a step from plain numbers.
 use Prim.Native.Nat.{ℕ, _+_, _*_}
-use mathlib.Core.Bool.{Bool, true, false, cond, _&&_}
-use mathlib.Core.List.{List, [], _∷_}
+use mathlib.Core.Bool.{cond, _&&_}
+use mathlib.Core.List.{[], _∷_}
 use lib.Dec.{eqb, leb}
 use mir.Val.{boolByte}
 use Rattle.paging.specs.declared.Sizes.{Sizes}

@@ -1,11 +1,10 @@
 -- What `make_pointer` gives, packed; wider numbers are refused as it refuses.
 -- Assumes nothing.
-use mathlib.Core.Path.{_≡_, refl, sym, _∙_, ap}
+use mathlib.Core.Path.{sym, _∙_, ap}
 use native.Mathlib.Omega.{arith}
 use mathlib.Core.Logic.{inl, inr}
 use borrow.Author.Tests.{lt-ltb}
 use Rattle.pointers.specs.declared.Made.{Made}
-use Rattle.pointers.specs.declared.Pointer.{Pointer}
 use Rattle.pointers.proofs.Laws.{made-refused}
 use Rattle.replies.specs.Replies.{madeReply}
 use borrow.Author.Needs.{needs}

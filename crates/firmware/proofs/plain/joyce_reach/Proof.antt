@@ -1,6 +1,6 @@
 -- By the test of the sizes: 6, or the place and both blocks.
 -- Assumes nothing.
-use mathlib.Core.Path.{_≡_, refl, sym, _∙_, ap}
+use mathlib.Core.Path.{_≡_, sym, _∙_}
 use mathlib.Core.Bool.{true, false}
 use borrow.Author.Tests.{not-true, not-false}
 use Rattle.paging.specs.Memory.{allowed}

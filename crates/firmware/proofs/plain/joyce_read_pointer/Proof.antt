@@ -1,6 +1,6 @@
 -- What `read_pointer` gives, packed.
 -- Assumes nothing.
-use mathlib.Core.Path.{_≡_, refl, sym, _∙_, ap}
+use mathlib.Core.Path.{_∙_, ap}
 use Rattle.pointers.specs.declared.Pointer.{Pointer}
 use Rattle.replies.specs.Replies.{pointerReply}
 use borrow.Author.Needs.{needs}

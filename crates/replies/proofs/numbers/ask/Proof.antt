@@ -1,6 +1,6 @@
 -- By the kind, and whether its number and value are as wide as it takes.
 -- Assumes nothing.
-use Prim.Native.Nat.{ℕ, _%_}
+use Prim.Native.Nat.{_%_}
 use native.Mathlib.Omega.{arith}
 use mathlib.Core.Path.{_≡_}
 use borrow.Author.Tests.{ne-eqb, leb-true}

@@ -1,6 +1,6 @@
 -- What `first_difference` answers, packed, by whether there is one.
 -- Assumes nothing.
-use mathlib.Core.Path.{_≡_, refl, sym, _∙_, ap}
+use mathlib.Core.Path.{sym, _∙_, ap}
 use Rattle.picture.specs.declared.search.Place.{Place}
 use Rattle.replies.specs.Replies.{differenceReply, placeReply}
 use borrow.Author.Needs.{needs}

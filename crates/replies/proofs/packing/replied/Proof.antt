@@ -1,6 +1,6 @@
 -- What `step` answers to the step asked, packed.
 -- Assumes nothing.
-use mathlib.Core.Path.{_≡_, refl, sym, _∙_, ap}
+use mathlib.Core.Path.{_≡_, _∙_, ap}
 use denote.Ref.{now}
 use Prim.Native.Nat.{_≤_}
 use native.Mathlib.Omega.{arith}
