@@ -15,7 +15,7 @@ fn take(label: &[u8], b: Board, s: Step) -> Board {
 }
 
 // Each step on a RAM of zeros.
-pub fn scene() {
+pub(crate) fn scene() {
     title(b"steps by their kind");
     let b = take(b"Fetch", sized(8, 8, 50), Step::Fetch(0));
     let b = take(b"Write", b, Step::Write(0x4000, 0x5a));

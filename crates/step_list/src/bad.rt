@@ -133,7 +133,7 @@ fn zeros(ram: &[u8]) {
     try_it(b"zeros", clean(sized(0, 0, 0)), ram);
 }
 
-pub fn scene() {
+pub(crate) fn scene() {
     let ram = blocks_8();
     bad_numbers(&ram);
     bad_flags(&ram);

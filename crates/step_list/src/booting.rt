@@ -66,7 +66,7 @@ fn whole() {
     run(sized(8, 8, 60), &list, &mut ram, &stream);
 }
 
-pub fn scene() {
+pub(crate) fn scene() {
     short();
     whole();
 }

@@ -165,7 +165,7 @@ fn list_out() {
     passed_out(&mut ram);
 }
 
-pub fn scene() {
+pub(crate) fn scene() {
     status_list();
     register_list();
     command_list();

@@ -102,7 +102,7 @@ fn changed_route(ram: &mut [u8]) {
     run(ready(50), &list, ram, b"");
 }
 
-pub fn scene() {
+pub(crate) fn scene() {
     let mut ram = blocks_8();
     sources(&mut ram);
     line_after_route(&mut ram);

@@ -116,7 +116,7 @@ fn both() {
     run(ready(50), &list, &mut ram, b"");
 }
 
-pub fn scene() {
+pub(crate) fn scene() {
     shared();
     pixels(50);
     pixels(60);

@@ -230,7 +230,7 @@ fn not_wide() {
     widened(b"", &mut out);
 }
 
-pub fn scene() {
+pub(crate) fn scene() {
     sets();
     members();
     searches();

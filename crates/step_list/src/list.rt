@@ -115,7 +115,7 @@ fn act(b: Board, code: u32, ram: &mut [u8], boot: &[u8]) -> Board {
 }
 
 // Each step takes the record that the one before gave.
-pub fn run(b: Board, list: &[u32], ram: &mut [u8], boot: &[u8]) -> Board {
+pub(crate) fn run(b: Board, list: &[u32], ram: &mut [u8], boot: &[u8]) -> Board {
     let mut b = b;
     for i in 0..list.len() {
         b = act(b, list[i], ram, boot);

@@ -151,7 +151,7 @@ fn expansion() {
     run(prepared(16, 18, 60), &list, &mut ram, b"");
 }
 
-pub fn scene() {
+pub(crate) fn scene() {
     split();
     locks();
     ends();

@@ -108,7 +108,7 @@ fn kept() {
     );
 }
 
-pub fn scene() {
+pub(crate) fn scene() {
     title(b"lines noted by registers, 50 Hz");
     registers(50);
     title(b"lines noted by registers, 60 Hz");

@@ -60,7 +60,7 @@ fn bad_rates() {
     on(9, 8, 55);
 }
 
-pub fn scene() {
+pub(crate) fn scene() {
     allowed();
     bad_sizes();
     bad_rates();

@@ -92,7 +92,7 @@ fn full_stream() {
     every_kind(b"a stream of 1,024", busy(60), &mut ram, &stream);
 }
 
-pub fn scene() {
+pub(crate) fn scene() {
     let long = [0x11u8; 1025];
     all_at_fault(&long);
     bad_record();

@@ -42,7 +42,7 @@ fn after_all(rate: u8) {
     run(sized(8, 8, rate), &list, &mut ram, b"\x11");
 }
 
-pub fn scene() {
+pub(crate) fn scene() {
     title(b"a reset, 50 Hz");
     after_all(50);
     title(b"a reset, 60 Hz");

@@ -43,7 +43,7 @@ fn at_60() {
     run(ready(60), &list, &mut ram, b"");
 }
 
-pub fn scene() {
+pub(crate) fn scene() {
     at_50();
     at_60();
 }

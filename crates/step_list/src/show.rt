@@ -9,48 +9,48 @@ use paging::Paging;
 use paging::Sizes;
 use steps::Answer;
 
-pub fn text(label: &[u8]) {
+pub(crate) fn text(label: &[u8]) {
     io::write_all(1, label);
 }
 
-pub fn end() {
+pub(crate) fn end() {
     text(b"\n");
 }
 
 // A scene's first line.
-pub fn title(name: &[u8]) {
+pub(crate) fn title(name: &[u8]) {
     text(b"== ");
     text(name);
     end();
 }
 
-pub fn number(name: &[u8], n: u64) {
+pub(crate) fn number(name: &[u8], n: u64) {
     text(name);
     io::print_decimal(1, n);
 }
 
-pub fn small(name: &[u8], n: u8) {
+pub(crate) fn small(name: &[u8], n: u8) {
     number(name, n as u64);
 }
 
-pub fn medium(name: &[u8], n: u16) {
+pub(crate) fn medium(name: &[u8], n: u16) {
     number(name, n as u64);
 }
 
-pub fn hex(name: &[u8], n: u64, width: usize) {
+pub(crate) fn hex(name: &[u8], n: u64, width: usize) {
     text(name);
     io::print_hex(1, n, width);
 }
 
-pub fn byte(name: &[u8], n: u8) {
+pub(crate) fn byte(name: &[u8], n: u8) {
     hex(name, n as u64, 2);
 }
 
-pub fn word(name: &[u8], n: u16) {
+pub(crate) fn word(name: &[u8], n: u16) {
     hex(name, n as u64, 4);
 }
 
-pub fn flag(name: &[u8], on: bool) {
+pub(crate) fn flag(name: &[u8], on: bool) {
     number(name, on as u64);
 }
 
@@ -91,7 +91,7 @@ fn disc(d: Disc) {
 }
 
 // A set's four words, the lines from 0 up first.
-pub fn set(s: LineSet) {
+pub(crate) fn set(s: LineSet) {
     hex(b" ", s.words[0], 16);
     hex(b" ", s.words[1], 16);
     hex(b" ", s.words[2], 16);
@@ -99,7 +99,7 @@ pub fn set(s: LineSet) {
 }
 
 // The noted lines.
-pub fn noted(b: Board) -> Board {
+pub(crate) fn noted(b: Board) -> Board {
     text(b"   noted");
     set(b.dirty);
     end();
@@ -107,7 +107,7 @@ pub fn noted(b: Board) -> Board {
 }
 
 // All of a record.
-pub fn record(b: Board) -> Board {
+pub(crate) fn record(b: Board) -> Board {
     sizes(b.sizes);
     small(b" rate ", b.rate);
     paging(b.paging);
@@ -125,7 +125,7 @@ pub fn record(b: Board) -> Board {
 }
 
 // The rest of a step's line: its answer, with what of the record moves most. The record goes on.
-pub fn show(a: Answer) -> Board {
+pub(crate) fn show(a: Answer) -> Board {
     byte(b": ", a.byte);
     flag(b" int ", a.int);
     flag(b" nmi ", a.nmi);

@@ -165,7 +165,7 @@ fn expansion() {
     run(prepared(16, 18, 50), &list, &mut ram, b"");
 }
 
-pub fn scene() {
+pub(crate) fn scene() {
     split();
     pixels();
     wrapped();

@@ -88,7 +88,7 @@ fn all(out: bool, ram: &[u8]) -> Tally {
     t
 }
 
-pub fn scene() {
+pub(crate) fn scene() {
     let ram = blocks_8();
     title(b"all channels in");
     print(all(false, &ram));
