@@ -1,4 +1,4 @@
--- The board's record: when it is good, what it shows, and its parts replaced. Document 01, "What the box holds" and "Scan".
+-- The board's record: when it is good, what it shows, and its parts replaced. Document 01, "What the box holds", "Channels in" and "Scan".
 use Prim.Native.Nat.{ℕ, _+_}
 use mathlib.Core.Bool.{Bool, cond, not, _&&_, _||_}
 use mathlib.Core.List.{List}

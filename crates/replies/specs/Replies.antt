@@ -72,8 +72,8 @@ unfoldable pub reachReply : Sizes → Paging → ℕ → ℕ
 reachReply s p address =
     cond (allowed s) (reply (placeOf address) 0 0 (readBlock s p address + 256 * writeBlock s p address)) (reply 0 0 6 0)
 
--- The step that a kind, 1 to 9 in document 01's order, a number and a value name. Where a number is wider than its kind takes, or there is no such
--- kind, it is the keyboard word at offset 16, which is refused with 3 in 3's place.
+-- The step that a kind, 1 to 9 in document 01's order, a number and a value name. Where a number is wider than its kind takes, or other than 0
+-- where the kind takes none, or there is no such kind, it is the keyboard word at offset 16, which is refused with 3 in 3's place.
 unfoldable pub asked : ℕ → ℕ → ℕ → Step
 asked kind number value =
     cond (eqb kind 1 && (leb number 65535 && eqb value 0)) (Fetch number)

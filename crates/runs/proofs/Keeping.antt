@@ -1,4 +1,4 @@
--- An accepted step keeps the record good, and power-on starts with a good one.
+-- The ranges of a good record, part by part, and that a step keeps them.
 -- Assumes nothing.
 use native.Mathlib.Nat.{zero-add}
 use Prim.Native.Nat.{ℕ, _+_, _≤_, _<_, min}
