@@ -86,8 +86,7 @@ module _ (p : ℕ → Bool) (marks : List ℕ) where
       (λ k b. (
         other k (λ z. omega arith) (λ z. omega arith) ∙ f k b .0,
         other (256 + k) (λ z. omega arith) (λ z. omega arith) ∙ f k b .1,
-      ))
-      (
+      )) (
         getD-set-other (set marks e v) (256 + e) e v 0 (λ z. omega arith) ∙ getD-set-same marks e v 0 (omega arith) ∙ q,
         getD-set-same (set marks e v) (256 + e) v 0 (simp length-set (omega arith)) ∙ q,
       )

@@ -1,18 +1,15 @@
-use Prim.Native.Nat.{_-_, _≤_}
-use Prim.Native.Nat.{ℕ}
+-- `mark_pixels` marks each entry twice. The loop's invariant: the marks of the entries below e are made, and those 256 later.
+-- Assumes nothing.
+use Prim.Native.Nat.{_-_, _≤_, ℕ}
 use mathlib.Core.Path.{_≡_, ap, _∙_}
-use borrow.Author.Needs.{needs}
-use mir.Val.{boolByte}
 use native.Mathlib.Omega.{arith}
+use borrow.Author.Needs.{needs}
 use lib.ListN.{length, length-set}
+use mir.Val.{boolByte}
 use Rattle.scanline.specs.Drawing.{pixelTouched}
 use Rattle.scanline.proofs.Marks.{Twice, twice-none, twice-more, twice-all, shows, shows-round}
 use Rattle.scanline.proofs.mark_pixels.Statement.{statement}
 use Rattle.scanline.proofs.mark_pixels.Tie as tie
-use Rattle.scanline.proofs.mark_pixels.Reads as reads
-use Rattle.scanline.proofs.mark_pixels.Lts as lts
-use Rattle.pointers.proofs.pointer_word.Reads as pointer-word-reads
-use Rattle.scanline.proofs.pixel_hit.Reads as pixel-hit-reads
 
 abbrev Inv-loop : tie.InvT-loop
 Inv-loop ram table at marks₀ e₀ marks e = (e ≤ 256) × (length marks ≡ 512) × Twice (shows ram table at) marks e
@@ -20,47 +17,36 @@ Inv-loop ram table at marks₀ e₀ marks e = (e ≤ 256) × (length marks ≡ 5
 abbrev μ-loop : tie.MeasureT-loop
 μ-loop ram table at marks₀ e₀ marks e = 256 - e
 
--- src/lib.rt:62:5
 loop-holds : tie.Need-loop-holds Inv-loop μ-loop
 loop-holds c = (search needs, c .before .before .pre .1, twice-none _ _)
 
--- src/lib.rt:63:48
 cast-pointer-word : tie.Need-cast-pointer-word Inv-loop μ-loop
 cast-pointer-word c = omega arith
 
--- src/lib.rt:63:13
 pointer-word-requires : tie.Need-pointer-word-requires Inv-loop μ-loop
 pointer-word-requires c κs = tt
 
--- src/lib.rt:64:20
 pixel-hit-requires : tie.Need-pixel-hit-requires Inv-loop μ-loop
 pixel-hit-requires c κs = omega arith
 
--- src/lib.rt:64:20
 cast-mark : tie.Need-cast-mark Inv-loop μ-loop
 cast-mark c = tt
 
--- src/lib.rt:65:9
 slice-write-marks : tie.Need-slice-write-marks Inv-loop μ-loop
 slice-write-marks c = omega arith
 
--- src/lib.rt:66:15
 add-marks : tie.Need-add-marks Inv-loop μ-loop
 add-marks c = omega arith
 
--- src/lib.rt:66:9
 slice-write-marks-2 : tie.Need-slice-write-marks-2 Inv-loop μ-loop
 slice-write-marks-2 c = simp length-set (omega arith)
 
--- src/lib.rt:62:9
 add-e : tie.Need-add-e Inv-loop μ-loop
 add-e c = omega arith
 
--- src/lib.rt:62:5
 loop-less : tie.Need-loop-less Inv-loop μ-loop
 loop-less c = omega arith
 
--- src/lib.rt:62:5
 loop-again : tie.Need-loop-again Inv-loop μ-loop
 unfolding shows
 loop-again c =
@@ -71,11 +57,9 @@ loop-again c =
       twice-more _ (s .marks) (s .e) _ (s .inv .1) (omega arith) (ap boolByte (c .pixel-hit .ensures ∙ ap (λ (w : ℕ). pixelTouched w at) (c .before .pointer-word .ensures))) (s .inv .2),
     )
 
--- src/lib.rt:58:1
 same-length : tie.Need-same-length Inv-loop μ-loop
 same-length c = omega arith
 
--- src/lib.rt:58:1
 returns : tie.Need-returns Inv-loop μ-loop
 unfolding shows
 returns c =

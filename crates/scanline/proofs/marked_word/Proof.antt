@@ -1,3 +1,5 @@
+-- `marked_word` packs 64 marks. The loop's invariant: the digits from mark `from` + i on are made.
+-- Assumes nothing.
 use Prim.Native.Nat.{_+_, _-_, _^_, _≤_, _<_}
 use mathlib.Core.Path.{_≡_}
 use native.Mathlib.Omega.{arith}
@@ -8,8 +10,6 @@ use Rattle.scanline.proofs.Marks.{marked, marks-down, marks-end}
 use Rattle.scanline.proofs.Packed.{packed-start, packed-fits}
 use Rattle.scanline.proofs.marked_word.Statement.{statement}
 use Rattle.scanline.proofs.marked_word.Tie as tie
-use Rattle.scanline.proofs.marked_word.Reads as reads
-use Rattle.scanline.proofs.marked_word.Lts as lts
 
 abbrev Inv-loop : tie.InvT-loop
 Inv-loop marks from m₀ i₀ m i = (i ≤ 64) × (m ≡ packed (marked marks) (from + i) (64 - i))
@@ -17,7 +17,6 @@ Inv-loop marks from m₀ i₀ m i = (i ≤ 64) × (m ≡ packed (marked marks) (
 abbrev μ-loop : tie.MeasureT-loop
 μ-loop marks from m₀ i₀ m i = i
 
--- src/lib.rt:90:5
 -- the mark of a turn, and the sum with it
 small : (c : tie.In-loop Inv-loop μ-loop) → getD (now (c .before .before .args .marks)) (c .before .before .args .from + (c .before .loop .i - 1)) 0 < 2
 small c = c .before .before .pre .1 _ (omega arith)
@@ -39,39 +38,30 @@ sum-fits c = packed-fits _ _ _ _ (omega arith) (turn c)
 loop-holds : tie.Need-loop-holds Inv-loop μ-loop
 loop-holds c = (omega arith, packed-start _ _)
 
--- src/lib.rt:91:9
 sub-i : tie.Need-sub-i Inv-loop μ-loop
 sub-i c = omega arith
 
--- src/lib.rt:92:13
 add-m : tie.Need-add-m Inv-loop μ-loop
 add-m c = omega (arith, sum-fits c)
 
--- src/lib.rt:92:27
 add-m-2 : tie.Need-add-m-2 Inv-loop μ-loop
 add-m-2 c = omega arith
 
--- src/lib.rt:92:21
 shared-slice-read-m : tie.Need-shared-slice-read-m Inv-loop μ-loop
 shared-slice-read-m c = omega arith
 
--- src/lib.rt:92:21
 cast-m : tie.Need-cast-m Inv-loop μ-loop
 cast-m c = omega (arith, small (c .before))
 
--- src/lib.rt:92:13
 add-m-3 : tie.Need-add-m-3 Inv-loop μ-loop
 add-m-3 c = record { fits = sum-fits (c .before) }
 
--- src/lib.rt:90:5
 loop-less : tie.Need-loop-less Inv-loop μ-loop
 loop-less c = omega arith
 
--- src/lib.rt:90:5
 loop-again : tie.Need-loop-again Inv-loop μ-loop
 loop-again c = (omega arith, turn (c .before))
 
--- src/lib.rt:84:1
 returns : tie.Need-returns Inv-loop μ-loop
 returns c = marks-end _ _ _ _ (c .before .before .pre .0) (c .loop-test .left) (c .before .loop .inv .1)
 

@@ -1,23 +1,20 @@
+-- `touched` gives the set of `touches`: empty past standard RAM, else the four words of the marks from the top line's entry on.
+-- Assumes nothing.
 use Prim.Native.Nat.{ℕ, _<_}
-use mathlib.Core.Path.{_≡_}
+use mathlib.Core.Path.{_≡_, sym}
 use mathlib.Core.Bool.{Bool}
 use mathlib.Core.List.{List}
 use native.Mathlib.Omega.{arith}
-use lib.ListN.{length, getD}
-use denote.Ref.{now}
-use mir.Val.{boolByte}
-use Rattle.lineset.proofs.Operations.{four-words}
-use Rattle.scanline.specs.Drawing.{touches}
-use Rattle.scanline.proofs.Marks.{marks-small, word-first, word-top}
-use mathlib.Core.Path.{sym}
-use Rattle.scanline.proofs.Touches.{touches-past, set-none}
 use borrow.Author.Needs.{needs}
+use denote.Ref.{now}
+use lib.ListN.{length, getD}
+use mir.Val.{boolByte}
+use Rattle.scanline.specs.Drawing.{touches}
+use Rattle.lineset.proofs.Operations.{four-words}
+use Rattle.scanline.proofs.Marks.{marks-small, word-first, word-top}
+use Rattle.scanline.proofs.Touches.{touches-past, set-none}
 use Rattle.scanline.proofs.touched.Statement.{statement}
 use Rattle.scanline.proofs.touched.Tie as tie
-use Rattle.scanline.proofs.touched.Reads as reads
-use Rattle.scanline.proofs.touched.Lts as lts
-use Rattle.scanline.proofs.mark_entries.Reads as mark-entries-reads
-use Rattle.scanline.proofs.marked_word.Reads as marked-word-reads
 
 -- the marks, all 512 of them, and what they tell
 abbrev marks : tie.After-mark-entries → List ℕ
@@ -38,63 +35,48 @@ told c j h = c .mark-entries .ensures j (rw (all-marks c) at h)
 small : (c : tie.After-mark-entries) → (j : ℕ) → j < length (marks c) → getD (marks c) j 0 < 2
 small c = marks-small (hit c) (marks c) (told c)
 
--- src/lib.rt:102:9
 returns : tie.Need-returns
 returns c = sym (set-none _ (λ i. touches-past _ _ _ _ i (c .if1 .taken) (search needs) (c .before .shared-slice-known .given _ .fits) (c .before .shared-slice-known .given _ .fits)))
 
--- src/lib.rt:107:34
 slice-aggregate-mark-entries : tie.Need-slice-aggregate-mark-entries
 slice-aggregate-mark-entries c = search needs
 
--- src/lib.rt:107:5
 mark-entries-requires : tie.Need-mark-entries-requires
 mark-entries-requires c κs = search needs
 
--- src/lib.rt:109:25
 slice-aggregate-marked-word : tie.Need-slice-aggregate-marked-word
 slice-aggregate-marked-word c = search needs
 
--- src/lib.rt:109:9
 marked-word-requires : tie.Need-marked-word-requires
 marked-word-requires c κs = (omega (arith, all-marks (c .before .before)), small (c .before .before))
 
--- src/lib.rt:110:25
 slice-aggregate-marked-word-2 : tie.Need-slice-aggregate-marked-word-2
 slice-aggregate-marked-word-2 c = search needs
 
--- src/lib.rt:110:33
 add-marked-word : tie.Need-add-marked-word
 add-marked-word c = search needs
 
--- src/lib.rt:110:9
 marked-word-requires-2 : tie.Need-marked-word-requires-2
 marked-word-requires-2 c κs = (omega (arith, all-marks (c .before .before .before .before)), small (c .before .before .before .before))
 
--- src/lib.rt:111:25
 slice-aggregate-marked-word-3 : tie.Need-slice-aggregate-marked-word-3
 slice-aggregate-marked-word-3 c = search needs
 
--- src/lib.rt:111:33
 add-marked-word-2 : tie.Need-add-marked-word-2
 add-marked-word-2 c = search needs
 
--- src/lib.rt:111:9
 marked-word-requires-3 : tie.Need-marked-word-requires-3
 marked-word-requires-3 c κs = (omega (arith, all-marks (c .before .before .before .before .before .before)), small (c .before .before .before .before .before .before))
 
--- src/lib.rt:112:25
 slice-aggregate-marked-word-4 : tie.Need-slice-aggregate-marked-word-4
 slice-aggregate-marked-word-4 c = search needs
 
--- src/lib.rt:112:33
 add-marked-word-3 : tie.Need-add-marked-word-3
 add-marked-word-3 c = search needs
 
--- src/lib.rt:112:9
 marked-word-requires-4 : tie.Need-marked-word-requires-4
 marked-word-requires-4 c κs = (omega (arith, all-marks (c .before .before .before .before .before .before .before .before)), small (c .before .before .before .before .before .before .before .before))
 
--- src/lib.rt:98:1
 returns-2 : tie.Need-returns-2
 returns-2 c =
     let m = c .before .before .before .before .before .before .before .before .before in
