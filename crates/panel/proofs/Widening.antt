@@ -2,7 +2,7 @@
 -- Assumes nothing.
 use mathlib.Core.Path.{_≡_, refl, ap, sym, _∙_}
 use mathlib.Core.List.{List}
-use Prim.Native.Nat.{ℕ, zero, suc, _+_, _-_, _*_, _/_, _%_, _^_, _<_}
+use Prim.Native.Nat.{ℕ, zero, suc, _+_, _-_, _*_, _/_, _%_, _^_, _≤_, _<_}
 use native.Mathlib.Nat.{div-div-eq-div-mul, eq-or-lt-of-le, le-of-suc-le-suc, not-suc-le-zero, pow-succ'}
 use native.Mathlib.Omega.{arith}
 use mathlib.Core.Logic.{⊎-elim}
@@ -79,7 +79,7 @@ pixel-twice line j h =
     (getD-widened line (j / 8) (omega arith), pixel-doubled (getD line (j / 8 / 2) 0) (j / 8 % 2) (j % 8) (omega arith), byte, place)
 
 -- the first n bytes of the wide line are written
-pub Filled : List ℕ → List ℕ → ℕ → Type 0
+unfoldable pub Filled : List ℕ → List ℕ → ℕ → Type 0
 Filled line out n = (k : ℕ) → k < n → getD out k 0 ≡ widenedAt line k
 
 pub filled-none : (line out : List ℕ) → Filled line out 0
@@ -126,19 +126,27 @@ filled-pair line out out' n h l e f = rw (e, next) (
     next : 2 * (n + 1) ≡ 2 * n + 1 + 1
     next = omega arith
 
--- one turn: the pairs of three bytes
-pub filled-turn : (line out a b c : List ℕ) (i : ℕ) → i < 30 → length out ≡ 180
-    → a ≡ set (set out (2 * (3 * i)) (widenedAt line (2 * (3 * i)))) (2 * (3 * i) + 1) (widenedAt line (2 * (3 * i) + 1))
-    → b ≡ set (set a (2 * (3 * i + 1)) (widenedAt line (2 * (3 * i + 1)))) (2 * (3 * i + 1) + 1) (widenedAt line (2 * (3 * i + 1) + 1))
-    → c ≡ set (set b (2 * (3 * i + 2)) (widenedAt line (2 * (3 * i + 2)))) (2 * (3 * i + 2) + 1) (widenedAt line (2 * (3 * i + 2) + 1))
-    → Filled line out (2 * (3 * i)) → (length c ≡ 180) × Filled line c (2 * (3 * (i + 1)))
-filled-turn line out a b c i h l e f g q =
-    let p = filled-pair line out a (3 * i) (omega arith) l e q in
-    let r = filled-pair line a b (3 * i + 1) (omega arith) (p .0) f (p .1) in
-    let two : 3 * i + 1 + 1 ≡ 3 * i + 2 = omega arith in
-    let s = filled-pair line b c (3 * i + 2) (omega arith) (r .0) g (rw two at (r .1)) in
-    let three : 3 * i + 2 + 1 ≡ 3 * (i + 1) = omega arith in
-    (s .0, rw three at (s .1))
+-- the pairs of three bytes
+pub filled-three :
+    (line out a b c : List ℕ) (n : ℕ) →
+    n + 3 ≤ 90 →
+    length out ≡ 180 →
+    a ≡ set (set out (2 * n) (widenedAt line (2 * n))) (2 * n + 1) (widenedAt line (2 * n + 1)) →
+    b ≡ set (set a (2 * (n + 1)) (widenedAt line (2 * (n + 1)))) (2 * (n + 1) + 1) (widenedAt line (2 * (n + 1) + 1)) →
+    c ≡ set (set b (2 * (n + 2)) (widenedAt line (2 * (n + 2)))) (2 * (n + 2) + 1) (widenedAt line (2 * (n + 2) + 1)) →
+    Filled line out (2 * n) →
+    Filled line c (2 * (n + 3))
+filled-three line out a b c n h l e f g q =
+    let p = filled-pair line out a n (omega arith) l e q in
+    let r = filled-pair line a b (n + 1) (omega arith) (p .0) f (p .1) in
+    let two : n + 1 + 1 ≡ n + 2 = omega arith in
+    let s = filled-pair line b c (n + 2) (omega arith) (r .0) g (rw two at (r .1)) in
+    let three : n + 2 + 1 ≡ n + 3 = omega arith in
+    rw three at (s .1)
+
+-- as far as another number that is the same
+pub filled-to : (line out : List ℕ) (m n : ℕ) → m ≡ n → Filled line out m → Filled line out n
+filled-to line out m n e f = rw e at f
 
 pub filled-all : (line out : List ℕ) → length out ≡ 180 → Filled line out 180 → out ≡ widened line
 unfolding Filled
