@@ -31,7 +31,7 @@ element-copy-out-pair : tie.Need-element-copy-out-pair
 element-copy-out-pair c = c .shared-slice-known .given _ .fits
 
 cast-out : tie.Need-cast-out
-cast-out c = rw (both (c .before) .0) (record { fits = widened-small _ _ })
+cast-out c = omega (arith, both (c .before) .0, widened-small (now (c .before .before .args .line)) (2 * c .before .before .args .i))
 
 mul-out : tie.Need-mul-out
 mul-out c = search needs
@@ -55,7 +55,7 @@ same-length : tie.Need-same-length
 same-length c = search needs
 
 returns : tie.Need-returns
-returns c = rw (both (c .before) .0, both (c .before) .1)
+returns c = cc (both (c .before) .0, both (c .before) .1)
 
 pub put-spec : {M : Type 1} → statement M
 put-spec =
