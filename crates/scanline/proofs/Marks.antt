@@ -1,5 +1,5 @@
 -- Laws of the marks of the pointer table's entries: 512 bytes of 1 or 0, those of the 256 entries twice.
-use Prim.Native.Nat.{ℕ, suc, _+_, _-_, _*_, _/_, _%_, _≤_, _<_}
+use Prim.Native.Nat.{ℕ, _+_, _-_, _*_, _/_, _%_, _≤_, _<_}
 use mathlib.Core.Path.{_≡_, refl, ap, sym, _∙_}
 use mathlib.Core.Bool.{Bool, true, false}
 use mathlib.Core.List.{List}
@@ -12,7 +12,7 @@ use lib.ListN.{length, getD, set, length-set}
 use lib.Seq.{getD-set-same, getD-set-other}
 use mir.Val.{boolByte}
 use Rattle.lineset.specs.Lines.{packed}
-use Rattle.lineset.proofs.Laws.{packed-agree}
+use Rattle.lineset.proofs.Laws.{boolByte-lt, packed-agree}
 use Rattle.pointers.specs.Pointers.{tablePlace, entryOf, entryPlace, pointerWord}
 use Rattle.pointers.proofs.Laws.{table-place}
 use Rattle.scanline.specs.Drawing.{pixelTouched, touches}
@@ -22,10 +22,6 @@ use Rattle.scanline.proofs.Touches.{touches-pointer, touches-other}
 -- whether mark j is set
 pub marked : List ℕ → ℕ → Bool
 marked marks j = eqb (getD marks j 0) 1
-
-pub mark-lt : (b : Bool) → boolByte b < 2
-mark-lt true = omega arith
-mark-lt false = omega arith
 
 pub mark-byte : (marks : List ℕ) (j : ℕ) → getD marks j 0 < 2 → getD marks j 0 ≡ boolByte (marked marks j)
 unfolding marked
@@ -152,7 +148,7 @@ pub marks-small :
     (j : ℕ) →
     j < length marks →
     getD marks j 0 < 2
-marks-small p marks f j h = omega (arith, f j h, mark-lt (p j))
+marks-small p marks f j h = omega (arith, f j h, boolByte-lt (p j))
 
 -- the marks of the pixel bytes, and those of the pointer bytes set besides
 module _ (ram : List ℕ) (table at : ℕ) (marks : List ℕ) (f : (j : ℕ) → j < 512 → getD marks j 0 ≡ boolByte (pixelTouched (pointerWord ram table 0 j) at)) where
