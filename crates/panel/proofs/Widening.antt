@@ -1,8 +1,8 @@
 -- Laws of a line widened: a byte from its pixels and back, a list from its rule, and each pixel twice.
 -- Assumes nothing.
-use mathlib.Core.Path.{_≡_, refl, sym, _∙_}
+use mathlib.Core.Path.{_≡_, refl, ap, sym, _∙_}
 use mathlib.Core.List.{List}
-use Prim.Native.Nat.{ℕ, zero, suc, _+_, _-_, _*_, _/_, _%_, _^_, _<_}
+use Prim.Native.Nat.{ℕ, zero, suc, _+_, _-_, _*_, _/_, _%_, _^_, _≤_, _<_}
 use native.Mathlib.Nat.{div-div-eq-div-mul, eq-or-lt-of-le, le-of-suc-le-suc, not-suc-le-zero, pow-succ'}
 use native.Mathlib.Omega.{arith}
 use mathlib.Core.Logic.{⊎-elim}
@@ -10,7 +10,7 @@ use lib.Dec.{lit<}
 use borrow.Author.Count.{below-none, below-more}
 use lib.ListN.{length, getD, set, length-set}
 use lib.Seq.{ext-getD, getD-set-same, getD-set-other}
-use Rattle.panel.specs.Widen.{pixelOf, digits, byteOf, doubledByte, widenedAt, widened, pixelIn}
+use Rattle.panel.specs.Widen.{pixelOf, digits, byteOf, doubledByte, doubledPair, tabulate, widenedAt, widened, pixelIn}
 use Rattle.panel.proofs.Table.{length-tabulate, entry}
 
 pixel-small : (b k : ℕ) → pixelOf b k < 2
@@ -79,7 +79,7 @@ pixel-twice line j h =
     (getD-widened line (j / 8) (omega arith), pixel-doubled (getD line (j / 8 / 2) 0) (j / 8 % 2) (j % 8) (omega arith), byte, place)
 
 -- the first n bytes of the wide line are written
-pub Filled : List ℕ → List ℕ → ℕ → Type 0
+unfoldable pub Filled : List ℕ → List ℕ → ℕ → Type 0
 Filled line out n = (k : ℕ) → k < n → getD out k 0 ≡ widenedAt line k
 
 pub filled-none : (line out : List ℕ) → Filled line out 0
@@ -98,20 +98,55 @@ side : (line : List ℕ) (n i s : ℕ) → n / 2 ≡ i → n % 2 ≡ s → widen
 unfolding widenedAt
 side line n i s p q = rw (p, q)
 
--- one turn: the two bytes of a pair
-pub filled-turn : (line out : List ℕ) (i pair : ℕ) → i < 90 → length out ≡ 180 → pair ≡ doubledByte (getD line i 0) 0 * 256 + doubledByte (getD line i 0) 1 → Filled line out (2 * i) → Filled line (set (set out (2 * i) (pair / 256)) (2 * i + 1) (pair % 256)) (2 * (i + 1))
-filled-turn line out i pair h l e f = rw next
-    (filled-more line (set out (2 * i) (pair / 256)) (2 * i + 1) (pair % 256) (simp length-set (omega arith)) right
-    (filled-more line out (2 * i) (pair / 256) (omega arith) left f))
+pub widened-small : (line : List ℕ) (i : ℕ) → widenedAt line i < 256
+unfolding widenedAt
+widened-small line i = doubled-small (getD line (i / 2) 0) (i % 2)
+
+-- the two bytes of a pair that stands in the table
+pub pair-bytes : (line table : List ℕ) (i : ℕ) → getD line i 0 < 256 → table ≡ tabulate doubledPair 0 256
+    → (getD table (getD line i 0) 0 / 256 ≡ widenedAt line (2 * i)) × (getD table (getD line i 0) 0 % 256 ≡ widenedAt line (2 * i + 1))
+unfolding doubledPair
+pair-bytes line table i h e =
+    let pair : getD table (getD line i 0) 0 ≡ doubledByte (getD line i 0) 0 * 256 + doubledByte (getD line i 0) 1 = ap (λ (t : List ℕ). getD t (getD line i 0) 0) e ∙ entry doubledPair 256 (getD line i 0) h in
+    let small = doubled-small (getD line i 0) 1 in (
+      omega (arith, side line (2 * i) i 0 (omega arith) (omega arith)),
+      omega (arith, side line (2 * i + 1) i 1 (omega arith) (omega arith)),
+    )
+
+-- the wide line with the two bytes of byte n written
+filled-pair : (line out out' : List ℕ) (n : ℕ) → n < 90 → length out ≡ 180
+    → out' ≡ set (set out (2 * n) (widenedAt line (2 * n))) (2 * n + 1) (widenedAt line (2 * n + 1))
+    → Filled line out (2 * n) → (length out' ≡ 180) × Filled line out' (2 * (n + 1))
+filled-pair line out out' n h l e f = rw (e, next) (
+  simp length-set l,
+  filled-more line (set out (2 * n) (widenedAt line (2 * n))) (2 * n + 1) (widenedAt line (2 * n + 1)) (simp length-set (omega arith)) refl
+      (filled-more line out (2 * n) (widenedAt line (2 * n)) (omega arith) refl f),
+)
   where
-    next : 2 * (i + 1) ≡ 2 * i + 1 + 1
+    next : 2 * (n + 1) ≡ 2 * n + 1 + 1
     next = omega arith
 
-    left : pair / 256 ≡ widenedAt line (2 * i)
-    left = omega (arith, side line (2 * i) i 0 (omega arith) (omega arith), doubled-small (getD line i 0) 1)
+-- the pairs of three bytes
+pub filled-three :
+    (line out a b c : List ℕ) (n : ℕ) →
+    n + 3 ≤ 90 →
+    length out ≡ 180 →
+    a ≡ set (set out (2 * n) (widenedAt line (2 * n))) (2 * n + 1) (widenedAt line (2 * n + 1)) →
+    b ≡ set (set a (2 * (n + 1)) (widenedAt line (2 * (n + 1)))) (2 * (n + 1) + 1) (widenedAt line (2 * (n + 1) + 1)) →
+    c ≡ set (set b (2 * (n + 2)) (widenedAt line (2 * (n + 2)))) (2 * (n + 2) + 1) (widenedAt line (2 * (n + 2) + 1)) →
+    Filled line out (2 * n) →
+    Filled line c (2 * (n + 3))
+filled-three line out a b c n h l e f g q =
+    let p = filled-pair line out a n (omega arith) l e q in
+    let r = filled-pair line a b (n + 1) (omega arith) (p .0) f (p .1) in
+    let two : n + 1 + 1 ≡ n + 2 = omega arith in
+    let s = filled-pair line b c (n + 2) (omega arith) (r .0) g (rw two at (r .1)) in
+    let three : n + 2 + 1 ≡ n + 3 = omega arith in
+    rw three at (s .1)
 
-    right : pair % 256 ≡ widenedAt line (2 * i + 1)
-    right = omega (arith, side line (2 * i + 1) i 1 (omega arith) (omega arith), doubled-small (getD line i 0) 1)
+-- as far as another number that is the same
+pub filled-to : (line out : List ℕ) (m n : ℕ) → m ≡ n → Filled line out m → Filled line out n
+filled-to line out m n e f = rw e at f
 
 pub filled-all : (line out : List ℕ) → length out ≡ 180 → Filled line out 180 → out ≡ widened line
 unfolding Filled

@@ -23,6 +23,10 @@ byteOf p = digits p 8
 unfoldable pub doubledByte : ℕ → ℕ → ℕ
 doubledByte b half = byteOf (λ k. pixelOf b (4 * half + k / 2))
 
+-- the two halves, the left in the high byte
+unfoldable pub doubledPair : ℕ → ℕ
+doubledPair b = doubledByte b 0 * 256 + doubledByte b 1
+
 -- f from, f (from + 1), .., n values
 unfoldable pub tabulate : (ℕ → ℕ) → ℕ → ℕ → List ℕ
 tabulate f from zero = []

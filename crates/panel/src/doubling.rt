@@ -1,285 +1,40 @@
 // One line of 90 bytes widened to 180, each pixel twice. The leftmost pixel is in the top bit.
 ghost use mathlib.Core.Path.{_≡_};
-ghost use Prim.Native.Nat.{_+_, _*_};
-ghost use lib.ListN.{length};
-ghost use Rattle.panel.specs.Widen.{doubledByte, widened, widenRefusal, widenedOut};
+ghost use Prim.Native.Nat.{ℕ, _+_, _*_, _≤_, _<_};
+ghost use lib.ListN.{length, getD, set};
+ghost use Rattle.panel.specs.Widen.{doubledPair, tabulate, widenedAt, widened, widenRefusal, widenedOut};
+use crate::doubles::doubled_table;
 
-// The eight pixels of each byte, each twice: the left four in the high byte.
-const DOUBLED: [u16; 256] = [
-    0x0000,
-    0x0003,
-    0x000c,
-    0x000f,
-    0x0030,
-    0x0033,
-    0x003c,
-    0x003f,
-    0x00c0,
-    0x00c3,
-    0x00cc,
-    0x00cf,
-    0x00f0,
-    0x00f3,
-    0x00fc,
-    0x00ff,
-    0x0300,
-    0x0303,
-    0x030c,
-    0x030f,
-    0x0330,
-    0x0333,
-    0x033c,
-    0x033f,
-    0x03c0,
-    0x03c3,
-    0x03cc,
-    0x03cf,
-    0x03f0,
-    0x03f3,
-    0x03fc,
-    0x03ff,
-    0x0c00,
-    0x0c03,
-    0x0c0c,
-    0x0c0f,
-    0x0c30,
-    0x0c33,
-    0x0c3c,
-    0x0c3f,
-    0x0cc0,
-    0x0cc3,
-    0x0ccc,
-    0x0ccf,
-    0x0cf0,
-    0x0cf3,
-    0x0cfc,
-    0x0cff,
-    0x0f00,
-    0x0f03,
-    0x0f0c,
-    0x0f0f,
-    0x0f30,
-    0x0f33,
-    0x0f3c,
-    0x0f3f,
-    0x0fc0,
-    0x0fc3,
-    0x0fcc,
-    0x0fcf,
-    0x0ff0,
-    0x0ff3,
-    0x0ffc,
-    0x0fff,
-    0x3000,
-    0x3003,
-    0x300c,
-    0x300f,
-    0x3030,
-    0x3033,
-    0x303c,
-    0x303f,
-    0x30c0,
-    0x30c3,
-    0x30cc,
-    0x30cf,
-    0x30f0,
-    0x30f3,
-    0x30fc,
-    0x30ff,
-    0x3300,
-    0x3303,
-    0x330c,
-    0x330f,
-    0x3330,
-    0x3333,
-    0x333c,
-    0x333f,
-    0x33c0,
-    0x33c3,
-    0x33cc,
-    0x33cf,
-    0x33f0,
-    0x33f3,
-    0x33fc,
-    0x33ff,
-    0x3c00,
-    0x3c03,
-    0x3c0c,
-    0x3c0f,
-    0x3c30,
-    0x3c33,
-    0x3c3c,
-    0x3c3f,
-    0x3cc0,
-    0x3cc3,
-    0x3ccc,
-    0x3ccf,
-    0x3cf0,
-    0x3cf3,
-    0x3cfc,
-    0x3cff,
-    0x3f00,
-    0x3f03,
-    0x3f0c,
-    0x3f0f,
-    0x3f30,
-    0x3f33,
-    0x3f3c,
-    0x3f3f,
-    0x3fc0,
-    0x3fc3,
-    0x3fcc,
-    0x3fcf,
-    0x3ff0,
-    0x3ff3,
-    0x3ffc,
-    0x3fff,
-    0xc000,
-    0xc003,
-    0xc00c,
-    0xc00f,
-    0xc030,
-    0xc033,
-    0xc03c,
-    0xc03f,
-    0xc0c0,
-    0xc0c3,
-    0xc0cc,
-    0xc0cf,
-    0xc0f0,
-    0xc0f3,
-    0xc0fc,
-    0xc0ff,
-    0xc300,
-    0xc303,
-    0xc30c,
-    0xc30f,
-    0xc330,
-    0xc333,
-    0xc33c,
-    0xc33f,
-    0xc3c0,
-    0xc3c3,
-    0xc3cc,
-    0xc3cf,
-    0xc3f0,
-    0xc3f3,
-    0xc3fc,
-    0xc3ff,
-    0xcc00,
-    0xcc03,
-    0xcc0c,
-    0xcc0f,
-    0xcc30,
-    0xcc33,
-    0xcc3c,
-    0xcc3f,
-    0xccc0,
-    0xccc3,
-    0xcccc,
-    0xcccf,
-    0xccf0,
-    0xccf3,
-    0xccfc,
-    0xccff,
-    0xcf00,
-    0xcf03,
-    0xcf0c,
-    0xcf0f,
-    0xcf30,
-    0xcf33,
-    0xcf3c,
-    0xcf3f,
-    0xcfc0,
-    0xcfc3,
-    0xcfcc,
-    0xcfcf,
-    0xcff0,
-    0xcff3,
-    0xcffc,
-    0xcfff,
-    0xf000,
-    0xf003,
-    0xf00c,
-    0xf00f,
-    0xf030,
-    0xf033,
-    0xf03c,
-    0xf03f,
-    0xf0c0,
-    0xf0c3,
-    0xf0cc,
-    0xf0cf,
-    0xf0f0,
-    0xf0f3,
-    0xf0fc,
-    0xf0ff,
-    0xf300,
-    0xf303,
-    0xf30c,
-    0xf30f,
-    0xf330,
-    0xf333,
-    0xf33c,
-    0xf33f,
-    0xf3c0,
-    0xf3c3,
-    0xf3cc,
-    0xf3cf,
-    0xf3f0,
-    0xf3f3,
-    0xf3fc,
-    0xf3ff,
-    0xfc00,
-    0xfc03,
-    0xfc0c,
-    0xfc0f,
-    0xfc30,
-    0xfc33,
-    0xfc3c,
-    0xfc3f,
-    0xfcc0,
-    0xfcc3,
-    0xfccc,
-    0xfccf,
-    0xfcf0,
-    0xfcf3,
-    0xfcfc,
-    0xfcff,
-    0xff00,
-    0xff03,
-    0xff0c,
-    0xff0f,
-    0xff30,
-    0xff33,
-    0xff3c,
-    0xff3f,
-    0xffc0,
-    0xffc3,
-    0xffcc,
-    0xffcf,
-    0xfff0,
-    0xfff3,
-    0xfffc,
-    0xffff,
-];
-
-// A byte's pixels, each twice.
-pub fn doubled(byte: u8) -> u16
-    ensures { λ r. ⌜ r ≡ doubledByte byte 0 * 256 + doubledByte byte 1 ⌝ }
+// Writes the two bytes of byte i of a line.
+fn put(line: &[u8], out: &mut [u8], table: &[u16; 256], i: usize)
+    requires { ⌜ (i < 90) × (length (now line) ≡ 90) × (length (now out) ≡ 180) × (now table ≡ tabulate doubledPair 0 256) ⌝ }
+    ensures { λ r. ⌜ now (out .exit) ≡ set (set (now (out .entry)) (2 * i) (widenedAt (now (line .entry)) (2 * i))) (2 * i + 1) (widenedAt (now (line .entry)) (2 * i + 1)) ⌝ }
 {
-    DOUBLED[byte as usize]
+    let pair = table[line[i] as usize];
+    out[2 * i] = (pair / 256) as u8;
+    out[2 * i + 1] = (pair % 256) as u8;
 }
 
-// Writes the wide line. The caller has seen that the lengths are right.
-fn fill(line: &[u8], out: &mut [u8])
-    requires { ⌜ (length (now line) ≡ 90) × (length (now out) ≡ 180) ⌝ }
+// Writes the six bytes of the three bytes from i on, after those of the bytes before.
+fn put_three(line: &[u8], out: &mut [u8], table: &[u16; 256], i: usize)
+    requires { ⌜ (i + 3 ≤ 90) × (length (now line) ≡ 90) × (length (now out) ≡ 180) × (now table ≡ tabulate doubledPair 0 256) × ((k : ℕ) → k < 2 * i → getD (now out) k 0 ≡ widenedAt (now line) k) ⌝ }
+    ensures { λ r. ⌜ ((k : ℕ) → k < 2 * (i + 3) → getD (now (out .exit)) k 0 ≡ widenedAt (now (line .entry)) k) ⌝ }
+{
+    put(line, out, table, i);
+    put(line, out, table, i + 1);
+    put(line, out, table, i + 2);
+}
+
+// Writes the wide line, nine bytes of the line a turn. The caller has seen that the lengths are right, and lends the
+// table, made once a line.
+fn fill(line: &[u8], out: &mut [u8], table: &[u16; 256])
+    requires { ⌜ (length (now line) ≡ 90) × (length (now out) ≡ 180) × (now table ≡ tabulate doubledPair 0 256) ⌝ }
     ensures { λ r. ⌜ now (out .exit) ≡ widened (now (line .entry)) ⌝ }
 {
-    for i in 0..90 {
-        let pair = doubled(line[i]);
-        out[2 * i] = (pair / 256) as u8;
-        out[2 * i + 1] = (pair % 256) as u8;
+    for i in 0..10 {
+        put_three(line, out, table, 9 * i);
+        put_three(line, out, table, 9 * i + 3);
+        put_three(line, out, table, 9 * i + 6);
     }
 }
 
@@ -294,6 +49,7 @@ pub fn widen(line: &[u8], out: &mut [u8]) -> u8
     if out.len() != 180 {
         return 2;
     }
-    fill(line, out);
+    let table = doubled_table();
+    fill(line, out, &table);
     0
 }

@@ -1,4 +1,5 @@
 pub mod Changes
+pub mod Marks
 pub mod Packed
 pub mod Pixels
 pub mod Touches

@@ -2,7 +2,7 @@
 use Prim.Native.Nat.{ℕ, zero, suc, _+_, _-_, _^_, _≤_, _<_}
 use mathlib.Core.Path.{_≡_, refl, ap, _∙_}
 use mathlib.Core.Bool.{Bool, true, false}
-use native.Mathlib.Nat.{pow-suc}
+use native.Mathlib.Nat.{pow-suc, add-suc}
 use native.Mathlib.Omega.{arith}
 use lib.Pow.{pow-mono}
 use mir.Val.{boolByte}
@@ -47,3 +47,10 @@ packed-end p from i m h e =
     let f : from + i ≡ from = omega arith in
     let g : 64 - i ≡ 64 = omega arith in
     e ∙ rw (f, g)
+
+-- the digits of a property from k on are those of the property moved down by k
+pub packed-moved : (p q : ℕ → Bool) (k from n : ℕ) → ((i : ℕ) → q i ≡ p (k + i)) → packed p (k + from) n ≡ packed q from n
+unfolding packed
+packed-moved p q k from zero h = refl
+packed-moved p q k from (suc n) h =
+    rw (h from, ← packed-moved p q k (suc from) n h, add-suc)

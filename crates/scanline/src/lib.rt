@@ -1,8 +1,12 @@
 // Scan lines: the places of a line's pixels, the drawn byte, and the lines that a store touches. Pointers and the
 // panel's part stand in crates of their own, and are handed on here.
 ghost use mathlib.Core.Path.{_≡_};
-ghost use Prim.Native.Nat.{_≤_};
+ghost use Prim.Native.Nat.{ℕ, _+_, _≤_, _<_};
+ghost use mathlib.Core.Bool.{Bool};
+ghost use lib.ListN.{length, getD};
+ghost use mir.Val.{boolByte};
 ghost use Rattle.lineset.specs.Lines.{setOf, packed};
+ghost use Rattle.pointers.specs.Pointers.{pointerWord};
 ghost use Rattle.scanline.specs.Drawing.{pixelPlace, drawnByte, touches, pixelTouched};
 use lineset::LineSet;
 pub use panel::doubled;
@@ -37,35 +41,55 @@ pub fn drawn_byte(control: u8, byte: u8) -> u8
 }
 
 // Whether a place is one of the 90 pixel bytes that a pointer word names: it stands in the word's block and at the same
-// place in eight, and the way to it, round the block, is below 90 eights. No branch, since it is asked of every line.
+// place in eight, and the way to it, round the block, is below 90 eights. No branch, and 16 bits, since it is asked of
+// every line.
 fn pixel_hit(word: u16, at: usize) -> bool
+    requires { ⌜ at < 131072 ⌝ }
     ensures { λ r. ⌜ r ≡ pixelTouched word at ⌝ }
 {
-    let w = word as usize;
-    let eights = (at % 16384 / 8 + 2048 - 2 * (w % 8192 / 8)) % 2048;
-    (w / 8192 == at / 16384) & ((w % 8 == at % 8) & (eights < 90))
+    let block = (at / 16384) as u16;
+    let place = (at % 16384 / 8) as u16;
+    let eights = (place + 2048 - 2 * (word % 8192 / 8)) % 2048;
+    (word / 8192 == block) & ((word % 8 == (at % 8) as u16) & (eights < 90))
 }
 
-// Whether a place is one of a line's two pointer bytes, of which the first has an even place, or of
-// its pixel bytes.
-fn hits(ram: &[u8], table: u8, top: u8, at: usize, line: u8) -> bool
-    ensures { λ r. ⌜ r ≡ touches (now (ram .entry)) table top at line ⌝ }
+// Marks by 1 or 0 the table's entries that have a place among their pixel bytes. The 256 marks stand twice, so that the
+// lines' marks stand in a row from the top line's entry on.
+fn mark_pixels(ram: &[u8], table: u8, at: usize, marks: &mut [u8])
+    requires { ⌜ (at < 131072) × (length (now marks) ≡ 512) ⌝ }
+    ensures { λ r. ⌜ ((j : ℕ) → j < 512 → getD (now (marks .exit)) j 0 ≡ boolByte (pixelTouched (pointerWord (now (ram .entry)) table 0 j) at)) ⌝ }
 {
-    let pointer = at / 2 == entry_place(table, top, line) / 2;
-    pointer | pixel_hit(pointer_word(ram, table, top, line), at)
+    for e in 0..256 {
+        let word = pointer_word(ram, table, 0, e as u8);
+        let mark = pixel_hit(word, at) as u8;
+        marks[e] = mark;
+        marks[256 + e] = mark;
+    }
 }
 
-// The 64 lines from a line on as a word, made from its top digit down.
-fn touched_word(ram: &[u8], table: u8, top: u8, at: usize, from: u8) -> u64
-    requires { ⌜ from ≤ 192 ⌝ }
-    ensures { λ r. ⌜ r ≡ packed (touches (now (ram .entry)) table top at) from 64 ⌝ }
+// Marks the entries that have a place among their pixel bytes or their two pointer bytes.
+fn mark_entries(ram: &[u8], table: u8, at: usize, marks: &mut [u8])
+    requires { ⌜ (at < 131072) × (length (now marks) ≡ 512) ⌝ }
+    ensures { λ r. ⌜ ((j : ℕ) → j < 512 → getD (now (marks .exit)) j 0 ≡ boolByte (touches (now (ram .entry)) table 0 at j)) ⌝ }
+{
+    mark_pixels(ram, table, at, marks);
+    if at / 512 == table as usize {
+        let e = at % 512 / 2;
+        marks[e] = 1;
+        marks[256 + e] = 1;
+    }
+}
+
+// 64 marks as a word, made from its top digit down.
+fn marked_word(marks: &[u8], from: usize) -> u64
+    requires { ⌜ (from + 64 ≤ length (now marks)) × ((j : ℕ) → j < length (now marks) → getD (now marks) j 0 < 2) ⌝ }
+    ensures { λ r. ⌜ ((p : ℕ → Bool) → ((j : ℕ) → j < length (now (marks .entry)) → getD (now (marks .entry)) j 0 ≡ boolByte (p j)) → r ≡ packed p from 64) ⌝ }
 {
     let mut m: u64 = 0;
-    let mut i: u8 = 64;
+    let mut i: usize = 64;
     while i > 0 {
         i -= 1;
-        let hit = hits(ram, table, top, at, from + i);
-        m = m + m + hit as u64;
+        m = m + m + marks[from + i] as u64;
     }
     m
 }
@@ -79,10 +103,13 @@ pub fn touched(ram: &[u8], table: u8, top: u8, at: usize) -> LineSet
             words: [0, 0, 0, 0],
         };
     }
-    let a = touched_word(ram, table, top, at, 0);
-    let b = touched_word(ram, table, top, at, 64);
-    let c = touched_word(ram, table, top, at, 128);
-    let d = touched_word(ram, table, top, at, 192);
+    let mut marks = [0u8; 512];
+    mark_entries(ram, table, at, &mut marks);
+    let first = top as usize;
+    let a = marked_word(&marks, first);
+    let b = marked_word(&marks, first + 64);
+    let c = marked_word(&marks, first + 128);
+    let d = marked_word(&marks, first + 192);
     LineSet {
         words: [a, b, c, d],
     }

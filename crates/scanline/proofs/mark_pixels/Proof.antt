@@ -1,0 +1,88 @@
+-- `mark_pixels` marks each entry twice. The loop's invariant: the marks of the entries below e are made, and those 256 later.
+-- Assumes nothing.
+use Prim.Native.Nat.{_-_, _≤_, ℕ}
+use mathlib.Core.Path.{_≡_, ap, _∙_}
+use native.Mathlib.Omega.{arith}
+use borrow.Author.Needs.{needs}
+use lib.ListN.{length, length-set}
+use mir.Val.{boolByte}
+use Rattle.scanline.specs.Drawing.{pixelTouched}
+use Rattle.scanline.proofs.Marks.{Twice, twice-none, twice-more, twice-all, shows, shows-round}
+use Rattle.scanline.proofs.mark_pixels.Statement.{statement}
+use Rattle.scanline.proofs.mark_pixels.Tie as tie
+
+abbrev Inv-loop : tie.InvT-loop
+Inv-loop ram table at marks₀ e₀ marks e = (e ≤ 256) × (length marks ≡ 512) × Twice (shows ram table at) marks e
+
+abbrev μ-loop : tie.MeasureT-loop
+μ-loop ram table at marks₀ e₀ marks e = 256 - e
+
+loop-holds : tie.Need-loop-holds Inv-loop μ-loop
+loop-holds c = (search needs, c .before .before .pre .1, twice-none _ _)
+
+cast-pointer-word : tie.Need-cast-pointer-word Inv-loop μ-loop
+cast-pointer-word c = omega arith
+
+pointer-word-requires : tie.Need-pointer-word-requires Inv-loop μ-loop
+pointer-word-requires c κs = tt
+
+pixel-hit-requires : tie.Need-pixel-hit-requires Inv-loop μ-loop
+pixel-hit-requires c κs = omega arith
+
+cast-mark : tie.Need-cast-mark Inv-loop μ-loop
+cast-mark c = tt
+
+slice-write-marks : tie.Need-slice-write-marks Inv-loop μ-loop
+slice-write-marks c = omega arith
+
+add-marks : tie.Need-add-marks Inv-loop μ-loop
+add-marks c = omega arith
+
+slice-write-marks-2 : tie.Need-slice-write-marks-2 Inv-loop μ-loop
+slice-write-marks-2 c = simp length-set (omega arith)
+
+add-e : tie.Need-add-e Inv-loop μ-loop
+add-e c = omega arith
+
+loop-less : tie.Need-loop-less Inv-loop μ-loop
+loop-less c = omega arith
+
+loop-again : tie.Need-loop-again Inv-loop μ-loop
+unfolding shows
+loop-again c =
+    let s = c .before .before .before .loop in
+    let at = c .before .before .before .before .before .before .args .at in (
+      omega arith,
+      simp length-set (s .inv .1),
+      twice-more _ (s .marks) (s .e) _ (s .inv .1) (omega arith) (ap boolByte (c .pixel-hit .ensures ∙ ap (λ (w : ℕ). pixelTouched w at) (c .before .pointer-word .ensures))) (s .inv .2),
+    )
+
+same-length : tie.Need-same-length Inv-loop μ-loop
+same-length c = omega arith
+
+returns : tie.Need-returns Inv-loop μ-loop
+unfolding shows
+returns c =
+    let s = c .before .loop in
+    let end : s .e ≡ 256 = omega arith in
+    twice-all _ (s .marks) (λ k. shows-round _ _ _ k) (rw end at (s .inv .2))
+
+pub mark-pixels-spec : {M : Type 1} → statement M
+mark-pixels-spec =
+    tie.close
+    (tie.spec
+    Inv-loop
+    μ-loop
+    loop-holds
+    cast-pointer-word
+    pointer-word-requires
+    pixel-hit-requires
+    cast-mark
+    slice-write-marks
+    add-marks
+    slice-write-marks-2
+    add-e
+    loop-less
+    loop-again
+    same-length
+    returns)
