@@ -56,6 +56,10 @@ pub(crate) fn take_write(b: Board, address: u16, value: u8, ram: &mut [u8], boot
 {
     let p = b.paging;
     let at = p.write_place(b.sizes, address);
+    // An equal byte leaves the record as it is, with no copy of it made.
+    if paging::byte_at(ram, at) == value {
+        return accepted(b, 0, false);
+    }
     let after = b.store(ram, at, value);
     put(ram, at, value);
     accepted(after, 0, false)

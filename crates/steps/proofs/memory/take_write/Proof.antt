@@ -1,12 +1,17 @@
--- The lines that the store touches are marked, then the byte is stored, both at the place written.
+-- An equal byte is kept; else the lines that the store touches are marked, then the byte is stored, both at the place written.
 -- Assumes nothing.
 use mathlib.Core.Path.{_≡_, refl, sym, _∙_, ap}
 use denote.Ref.{now}
 use Prim.Native.Nat.{ℕ}
 use mathlib.Core.Bool.{false}
-use lib.ListN.{set}
+use lib.ListN.{getD, set}
+use lib.Seq.{set-getD}
+use mir.Val.{Fits}
+use mir.Syntax.{w64}
+use Rattle.lineset.proofs.Sets.{Words}
 use Rattle.board.specs.declared.record.Board.{Board}
 use Rattle.board.specs.Marks.{marked}
+use Rattle.board.proofs.Marking.{store-kept}
 use Rattle.steps.specs.declared.answers.Step.the-variants.{Write}
 use Rattle.steps.specs.Steps.{moved, stored, stepByte, forwardedStep, ownRefusal, stepBoard, acceptedAnswer}
 use Rattle.steps.proofs.Answering.{own-accepted, own-stored}
@@ -14,14 +19,21 @@ use borrow.Author.Needs.{needs}
 use Rattle.steps.proofs.memory.take_write.Statement.{statement}
 use Rattle.steps.proofs.memory.take_write.Tie as tie
 
+fits : (s : tie.Start) (j : ℕ) → Fits w64 (getD (s .args .b .dirty .words) j 0)
+fits s j = search needs
+
+words : (s : tie.Start) → Words (s .args .b .dirty)
+words s = record { four = search needs; small = λ j. fits s j .fits }
+
+-- a store of the byte that is there leaves the RAM
+same : (s : tie.Start) (k p : ℕ) → getD (now (s .args .ram)) k 0 ≡ s .args .value → k ≡ p → set (now (s .args .ram)) p (s .args .value) ≡ now (s .args .ram)
+same s k p e w = ap (λ (j : ℕ). set (now (s .args .ram)) j (s .args .value)) (sym w) ∙ ap (λ (x : ℕ). set (now (s .args .ram)) k x) (sym e) ∙ set-getD (now (s .args .ram)) k 0
+
 write-place-requires : tie.Need-write-place-requires
 write-place-requires c κs = search needs
 
-store-requires : tie.Need-store-requires
-store-requires c κs = search needs
-
-put-requires : tie.Need-put-requires
-put-requires c κs = search needs
+byte-at-requires : tie.Need-byte-at-requires
+byte-at-requires c κs = search needs
 
 accepted-requires : tie.Need-accepted-requires
 accepted-requires c κs = search needs
@@ -32,11 +44,36 @@ same-length c = search needs
 returns : tie.Need-returns
 unfolding moved stored stepByte forwardedStep ownRefusal stepBoard
 returns c =
-    let s = c .before .before .before .before .before .before .before .before .before .before .before in
-    let w = c .before .before .before .before .before .before .before .write-place .ensures in
+    let s = c .before .before .before .before .before .before .before .before in
+    let e = same s _ _ (sym (c .before .before .byte-at .ensures) ∙ c .before .if1 .taken) (c .before .before .before .before .write-place .ensures) in
+    let st : stepBoard (s .args .b) (now (s .args .ram)) (Write (s .args .address) (s .args .value)) ≡ s .args .b =
+    store-kept (now (s .args .ram)) (s .args .b) _ (s .args .value) (words s) e in (
+      c .accepted .ensures
+          ∙ ap (λ (x : Board). acceptedAnswer x 0 false) (sym st)
+          ∙ own-accepted (s .args .b) (now (s .args .ram)) (now (s .args .boot)) (Write (s .args .address) (s .args .value)) refl,
+      sym e ∙ own-stored (s .args .b) (now (s .args .ram)) (now (s .args .boot)) (Write (s .args .address) (s .args .value)) refl,
+    )
+
+store-requires : tie.Need-store-requires
+store-requires c κs = search needs
+
+put-requires : tie.Need-put-requires
+put-requires c κs = search needs
+
+accepted-requires-2 : tie.Need-accepted-requires-2
+accepted-requires-2 c κs = search needs
+
+same-length-2 : tie.Need-same-length-2
+same-length-2 c = search needs
+
+returns-2 : tie.Need-returns-2
+unfolding moved stored stepByte forwardedStep ownRefusal stepBoard
+returns-2 c =
+    let s = c .before .before .before .before .before .before .before .before .before .before .before .before .before .before in
+    let w = c .before .before .before .before .before .before .before .before .before .before .write-place .ensures in
     let st : stepBoard (s .args .b) (now (s .args .ram)) (Write (s .args .address) (s .args .value)) ≡ c .before .before .before .before .before .store .result =
     ap (λ (k : ℕ). marked (s .args .b) (now (s .args .ram)) (s .args .b) (set (now (s .args .ram)) k (s .args .value))) (sym w) ∙ sym (c .before .before .before .before .before .store .ensures) in (
-      c .accepted .ensures
+      c .accepted2 .ensures
           ∙ ap (λ (x : Board). acceptedAnswer x 0 false) (sym st)
           ∙ own-accepted (s .args .b) (now (s .args .ram)) (now (s .args .boot)) (Write (s .args .address) (s .args .value)) refl,
       c .before .before .before .put .ensures ∙ ap (λ (k : ℕ). set (now (s .args .ram)) k (s .args .value)) w
@@ -48,8 +85,12 @@ take-write-spec =
     tie.close
     (tie.spec
     write-place-requires
-    store-requires
-    put-requires
+    byte-at-requires
     accepted-requires
     same-length
-    returns)
+    returns
+    store-requires
+    put-requires
+    accepted-requires-2
+    same-length-2
+    returns-2)
