@@ -1,38 +1,28 @@
-// Runs lists of steps on a RAM, and prints a line for each step with its answer. The file stdout was made from document 01.
-mod any_kind;
-mod bad;
-mod boards;
-mod booting;
-mod channels;
-mod interrupts;
-mod keyboard;
-mod kinds;
-mod leaves;
-mod list;
-mod memory;
-mod notes;
-mod power;
-mod refusals;
-mod resets;
-mod scans;
+// Runs a list of groups from standard input on one record and one RAM, and prints their answers. The files stdin and
+// stdout were made from document 01.
+mod groups;
+mod record;
 mod show;
-mod stores;
-mod tally;
+
+ghost use mathlib.Core.Path.{_≡_};
+ghost use lib.ListN.{length};
+use groups::State;
+
+// 18 blocks of zeros and a byte. Lending the array as a slice needs its length.
+fn memory() -> [u8; 294913]
+    ensures { λ r. ⌜ 294913 ≡ length r ⌝ }
+{
+    [0; 294913]
+}
 
 fn main() {
-    power::scene();
-    bad::scene();
-    refusals::scene();
-    booting::scene();
-    memory::scene();
-    channels::scene();
-    tally::scene();
-    interrupts::scene();
-    scans::scene();
-    notes::scene();
-    stores::scene();
-    keyboard::scene();
-    resets::scene();
-    any_kind::scene();
-    leaves::scene();
+    let mut input = io::large_buffer();
+    let got = io::read_full(0, &mut input);
+    let mut ram = memory();
+    let s = State {
+        board: record::power(0, 0, 0),
+        ram: 0,
+        boot: 0,
+    };
+    groups::run(s, &input[..got], &mut ram);
 }

@@ -1,28 +1,22 @@
--- `step_list::leaves::fill` is safe and ends: the loop counts to the slice's length, which stores keep.
+-- `step_list::groups::fill` is safe and ends: the loop counts to the slice's length, which stores keep.
 use Prim.Native.Nat.{_≤_, _-_}
 use mathlib.Core.Path.{_≡_}
 use lib.ListN.{length}
 use borrow.Author.Needs.{needs}
-use Rattle.step_list.proofs.leaves.fill.Statement.{statement}
-use Rattle.step_list.proofs.leaves.fill.Tie as tie
+use Rattle.step_list.proofs.groups.fill.Statement.{statement}
+use Rattle.step_list.proofs.groups.fill.Tie as tie
 
 abbrev Inv-loop : tie.InvT-loop
-Inv-loop line₀ n i₀ line i = (length line ≡ length line₀) × ((n ≡ length line₀) × (i ≤ n))
+Inv-loop value ram₀ n i₀ ram i = (length ram ≡ length ram₀) × ((n ≡ length ram₀) × (i ≤ n))
 
 abbrev μ-loop : tie.MeasureT-loop
-μ-loop line₀ n i₀ line i = n - i
+μ-loop value ram₀ n i₀ ram i = n - i
 
 loop-holds : tie.Need-loop-holds Inv-loop μ-loop
 loop-holds c = search needs
 
-mul-line : tie.Need-mul-line Inv-loop μ-loop
-mul-line c = search needs
-
-cast-line : tie.Need-cast-line Inv-loop μ-loop
-cast-line c = search needs
-
-slice-write-line : tie.Need-slice-write-line Inv-loop μ-loop
-slice-write-line c = search needs
+slice-write-ram : tie.Need-slice-write-ram Inv-loop μ-loop
+slice-write-ram c = search needs
 
 add-i : tie.Need-add-i Inv-loop μ-loop
 add-i c = search needs
@@ -46,9 +40,7 @@ fill-spec =
     Inv-loop
     μ-loop
     loop-holds
-    mul-line
-    cast-line
-    slice-write-line
+    slice-write-ram
     add-i
     loop-less
     loop-again

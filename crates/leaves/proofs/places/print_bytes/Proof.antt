@@ -1,0 +1,64 @@
+-- `leaves::places::print_bytes` is safe and ends: the loop counts to the slice's length.
+use Prim.Native.Nat.{_≤_, _-_}
+use mathlib.Core.Path.{_≡_}
+use lib.ListN.{length}
+use borrow.Author.Needs.{needs}
+use Rattle.leaves.proofs.places.print_bytes.Statement.{statement}
+use Rattle.leaves.proofs.places.print_bytes.Tie as tie
+
+abbrev Inv-loop : tie.InvT-loop
+Inv-loop s n i₀ t4 t5 i = (n ≡ length s) × (i ≤ n)
+
+abbrev μ-loop : tie.MeasureT-loop
+μ-loop s n i₀ t4 t5 i = n - i
+
+loop-holds : tie.Need-loop-holds Inv-loop μ-loop
+loop-holds c = search needs
+
+slice-aggregate-hex : tie.Need-slice-aggregate-hex Inv-loop μ-loop
+slice-aggregate-hex c = search needs
+
+shared-slice-read-hex : tie.Need-shared-slice-read-hex Inv-loop μ-loop
+shared-slice-read-hex c = search needs
+
+cast-hex : tie.Need-cast-hex Inv-loop μ-loop
+cast-hex c = search needs
+
+hex-requires : tie.Need-hex-requires Inv-loop μ-loop
+hex-requires c κs = search needs
+
+add-i : tie.Need-add-i Inv-loop μ-loop
+add-i c = search needs
+
+loop-less : tie.Need-loop-less Inv-loop μ-loop
+loop-less c = search needs
+
+loop-again : tie.Need-loop-again Inv-loop μ-loop
+loop-again c = search needs
+
+slice-aggregate-text : tie.Need-slice-aggregate-text Inv-loop μ-loop
+slice-aggregate-text c = search needs
+
+text-requires : tie.Need-text-requires Inv-loop μ-loop
+text-requires c κs = search needs
+
+returns : tie.Need-returns Inv-loop μ-loop
+returns c = search needs
+
+pub print-bytes-spec : {M : Type 1} → statement M
+print-bytes-spec =
+    tie.close
+    (tie.spec
+    Inv-loop
+    μ-loop
+    loop-holds
+    slice-aggregate-hex
+    shared-slice-read-hex
+    cast-hex
+    hex-requires
+    add-i
+    loop-less
+    loop-again
+    slice-aggregate-text
+    text-requires
+    returns)

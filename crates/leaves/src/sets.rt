@@ -1,0 +1,73 @@
+// Sets of lines.
+use crate::show::flag;
+use crate::show::medium;
+use crate::show::set;
+use crate::show::text;
+use lineset::Line;
+use lineset::LineSet;
+
+// Lines 0, 63, 64, 127, 200 and 255.
+fn some() -> LineSet {
+    LineSet {
+        words: [
+            0x8000_0000_0000_0001,
+            0x8000_0000_0000_0001,
+            0,
+            0x8000_0000_0000_0100,
+        ],
+    }
+}
+
+pub(crate) fn sets() {
+    let s = some();
+    let shown = LineSet::shown(60);
+    let both = s.intersection(shown);
+    set(b"empty ", LineSet::empty());
+    set(b"shown at 50 ", LineSet::shown(50));
+    set(b"shown at 60 ", shown);
+    set(b"shown at 55 ", LineSet::shown(55));
+    set(b"some ", s);
+    set(b"some or shown at 60 ", s.union(shown));
+    set(b"some and shown at 60 ", both);
+    flag(b"some within shown at 60: ", s.within(shown));
+    flag(b" at 50: ", s.within(LineSet::shown(50)));
+    flag(b" the common ones at 60: ", both.within(shown));
+    medium(b"\nshown lines ", lineset::shown_lines(50));
+    medium(b" ", lineset::shown_lines(60));
+    medium(b" ", lineset::shown_lines(0));
+    medium(b" scans ", board::frame_scans(50));
+    medium(b" ", board::frame_scans(60));
+    text(b"\n");
+}
+
+// Whether a line is in a set, and the next from it.
+fn line(s: LineSet, n: u16) {
+    medium(b"line ", n);
+    flag(b" has: ", s.contains(n));
+    match s.next(n) {
+        Line::At(at) => {
+            medium(b" next: ", at);
+        }
+        Line::Nothing => {
+            text(b" next: none");
+        }
+    }
+    text(b"\n");
+}
+
+pub(crate) fn lines() {
+    line(some(), 0);
+    line(some(), 1);
+    line(some(), 63);
+    line(some(), 64);
+    line(some(), 65);
+    line(some(), 128);
+    line(some(), 199);
+    line(some(), 201);
+    line(some(), 255);
+    line(some(), 256);
+    line(some(), 65535);
+    line(LineSet::shown(60), 199);
+    line(LineSet::shown(60), 200);
+    line(LineSet::empty(), 0);
+}
