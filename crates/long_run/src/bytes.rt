@@ -6,8 +6,9 @@ pub(crate) fn pattern(at: usize, first: usize) -> u8 {
     ((at % 1048576 * 167 + at / 256 * 3 % 256 + first % 256) % 256) as u8
 }
 
-pub(crate) fn fill(bytes: &mut [u8], first: usize) {
-    let mut i: usize = 0;
+// The pattern from a place on.
+pub(crate) fn fill(bytes: &mut [u8], from: usize, first: usize) {
+    let mut i = from;
     while i < bytes.len() {
         bytes[i] = pattern(i, first);
         i += 1;

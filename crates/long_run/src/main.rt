@@ -105,8 +105,8 @@ fn whole(rate: u8, ram: &mut [u8], picture: &mut [u8], full: &mut [u8]) {
     };
     let on = board::power_on(sizes, rate, paging, 0x5b, 0);
     let run = tally::start(on.board);
-    bytes::fill(ram, 167);
-    bytes::fill(picture, 59);
+    bytes::fill(ram, 0, 167);
+    bytes::fill(picture, 0, 59);
     acts(run, ram, picture, full);
 }
 

@@ -109,9 +109,10 @@ impl Run {
     }
 }
 
-// Whether a full draw over other bytes gives the same picture.
-fn is_whole(b: Board, ram: &[u8], picture: &[u8], full: &mut [u8]) -> bool {
-    fill(full, 59);
+// Whether a full draw gives the same picture. Its shown lines hold other bytes first, its unshown lines the pattern.
+fn is_whole(b: Board, unshown: usize, ram: &[u8], picture: &[u8], full: &mut [u8]) -> bool {
+    fill(full, 0, 200);
+    fill(full, unshown, 59);
     let drawn = picture::draw(b, ram, full);
     if drawn.refusal != 0 {
         return false;
@@ -127,12 +128,12 @@ fn is_whole(b: Board, ram: &[u8], picture: &[u8], full: &mut [u8]) -> bool {
     }
 }
 
-// A refresh, checked. The unshown lines of both pictures keep their pattern.
+// A refresh, checked. The unshown lines of the picture keep their pattern.
 pub(crate) fn refresh(run: Run, ram: &[u8], picture: &mut [u8], full: &mut [u8]) -> Run {
     let answer = picture::refresh(run.board, ram, picture);
     let mut r = run.refreshed(answer);
-    let whole = is_whole(answer.board, ram, picture, full);
     let unshown = lineset::shown_lines(run.board.rate) as usize * 90;
+    let whole = is_whole(answer.board, unshown, ram, picture, full);
     r.differed = more(run.differed, !whole as u64);
     r.spoilt = more(run.spoilt, changed(picture, unshown, 59));
     r

@@ -7,10 +7,10 @@ use Rattle.long_run.proofs.bytes.fill.Statement.{statement}
 use Rattle.long_run.proofs.bytes.fill.Tie as tie
 
 abbrev Inv-loop : tie.InvT-loop
-Inv-loop bytes₀ first i₀ bytes i = length bytes ≡ length bytes₀
+Inv-loop bytes₀ from first i₀ bytes i = length bytes ≡ length bytes₀
 
 abbrev μ-loop : tie.MeasureT-loop
-μ-loop bytes₀ first i₀ bytes i = length bytes₀ - i
+μ-loop bytes₀ from first i₀ bytes i = length bytes₀ - i
 
 loop-holds : tie.Need-loop-holds Inv-loop μ-loop
 loop-holds c = search needs
