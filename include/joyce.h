@@ -2,8 +2,9 @@
  * and picture. C11 and C++.
  *
  * Every input is taken: any bytes in a record, any length, any number. What a function does not
- * accept it refuses with a number, and then it changes nothing: not the record, not lent memory.
- * Lent memory must be there for the length given, must not overlap, and is not kept.
+ * accept it refuses with a number, and then it changes nothing: not the record, not lent memory
+ * (but joyce_power_on, refused with 6, leaves a record of zeros). Lent memory must be there for the
+ * length given (with length 0 any pointer but null serves), must not overlap, and is not kept.
  */
 #ifndef JOYCE_H
 #define JOYCE_H
@@ -51,8 +52,8 @@ enum {
 enum { JOYCE_ROUTE_NONE = 0, JOYCE_ROUTE_NMI = 1, JOYCE_ROUTE_INT = 2 };
 
 /* The record. Flags are 0 or 1. A good record has each field in range, no note on an unshown line,
- * and never route NMI with the disc line on. Power-on and every call hand back good records only,
- * if they are given good ones. */
+ * and never route NMI with the disc line on. An accepted power-on gives a good record, and every
+ * call leaves a good one good. */
 typedef struct { uint8_t internal, total; } joyce_sizes;                        /* blocks */
 typedef struct { uint8_t maps[4]; uint8_t lock; } joyce_paging;                 /* F0 to F3, F4 */
 typedef struct { uint8_t table, top, control; } joyce_video;                    /* F5, F6, F7 */
@@ -106,7 +107,9 @@ uint64_t joyce_power_on(joyce_board *board, uint8_t internal, uint8_t total, uin
  * on, refusal 1 to 5. A step notes a shown line exactly if F5, F6, or D7 or D6 of F7 comes to
  * differ, or the line's pointer word, or one of the 90 bytes named by its pointer before. NMI is
  * shown once; the route is none afterwards. After a refusal the lines are those of the record, off
- * for 1. The stream is at most 1,024 bytes and only read by a fetch in boot mode. */
+ * for 1. The stream is at most 1,024 bytes and only read by a fetch in boot mode. A kind outside 1
+ * to 9, a number or value wider than the kind takes, and one other than 0 that it does not take are
+ * refused with 3, after 1 and 2. */
 uint64_t joyce_step(joyce_board *board, uint32_t kind, uint32_t number, uint32_t value,
                     uint8_t *ram, size_t ram_len, const uint8_t *boot, size_t boot_len);
 

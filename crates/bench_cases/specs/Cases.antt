@@ -1,10 +1,9 @@
 -- The bench cases of document 01, shown of the rules themselves: one list, one statement.
 use Prim.Native.Nat.{ℕ, _+_, _*_}
 use mathlib.Core.Path.{_≡_, refl}
-use mathlib.Core.Bool.{Bool, true, false}
-use mathlib.Core.List.{List, [], _∷_}
-use lib.IntN.{ℤ, pos, negsuc, _-ℤ_}
-use Rattle.lineset.specs.Lines.{any}
+use mathlib.Core.Bool.{false}
+use mathlib.Core.List.{List, [], _∷_, _++_}
+use lib.IntN.{ℤ, pos, _-ℤ_}
 use Rattle.paging.specs.declared.Sizes.{Sizes}
 use Rattle.paging.specs.declared.Paging.{Paging}
 use Rattle.paging.specs.Memory.{bankOf, placeOf, lockWeight, locked, expansion, mapWrite, mapRead, readBlock, writeBlock}
@@ -12,6 +11,13 @@ use Rattle.pointers.specs.Pointers.{tablePlace, entryOf, pointerOf}
 use Rattle.panel.specs.Roll.{rollOf, nearest}
 use Rattle.panel.specs.Widen.{pixelOf, digits, byteOf, doubledByte}
 use Rattle.scanline.specs.Drawing.{pixelPlace, drawnByte}
+use Rattle.board.specs.declared.record.Board.{Board}
+use Rattle.board.specs.declared.record.Clock.{Clock}
+use Rattle.board.specs.Power.{freshBoard}
+use Rattle.board.specs.Record.{frame, statusByte, withClock}
+use Rattle.board.specs.Registers.{nextBeam, ticks, scanned}
+use Rattle.steps.specs.declared.answers.Step.the-variants.{PortIn}
+use Rattle.steps.specs.Steps.{moved, stepByte}
 
 -- a case: its number, what the rules give, and what document 01 says
 pub record Case : Type 0 where
@@ -25,12 +31,37 @@ sizes i t = record { internal = i; total = t }
 abbrev split : ℕ → Paging
 split lock = record { maps = 0x80 ∷ 0x25 ∷ 0x98 ∷ 0x87 ∷ []; lock = lock }
 
+-- 50 Hz, beam 0, disc off, counter 3; the record after a read of F8, and after one of F4 then
+abbrev counted : Board
+counted = withClock (freshBoard (sizes 8 8) 50 (split 0x00) 0 0) (record { counter = 3; beam = 0 })
+
+abbrev afterF8 : Board
+afterF8 = moved counted (PortIn 0xF8)
+
+abbrev afterF4 : Board
+afterF4 = moved afterF8 (PortIn 0xF4)
+
+-- counter and beam
+abbrev clock : Clock → List ℤ
+clock c = pos (c .counter) ∷ pos (c .beam) ∷ []
+
+-- one scan on from a beam, with the counter at 0
+abbrev scan : ℕ → ℕ → List ℤ
+scan rate beam = clock (scanned rate (record { counter = 0; beam = beam }))
+
 -- 15 stands for the case of the address FFFFh, which has no number
 abbrev pub cases : List Case
 cases =
     record { number = 1; given = pos (mapRead (sizes 16 16) false 0x98) ∷ pos (mapWrite (sizes 16 16) 0x98) ∷ []; said = pos 8 ∷ pos 8 ∷ [] }
     ∷ record { number = 2; given = pos (mapRead (sizes 32 32) false 0x98) ∷ pos (mapWrite (sizes 32 32) 0x98) ∷ []; said = pos 24 ∷ pos 24 ∷ [] }
-    ∷ record { number = 3; given = pos (mapRead (sizes 32 40) false 0xA7) ∷ pos (mapRead (sizes 32 40) false 0xA8) ∷ []; said = pos 39 ∷ pos 8 ∷ [] }
+    ∷ record {
+      number = 3;
+      given =
+          pos (mapRead (sizes 32 40) false 0xA7) ∷ pos (mapWrite (sizes 32 40) 0xA7) ∷ pos (mapRead (sizes 32 40) false 0xA8)
+          ∷ pos (mapWrite (sizes 32 40) 0xA8)
+          ∷ [];
+      said = pos 39 ∷ pos 39 ∷ pos 8 ∷ pos 8 ∷ [];
+    }
     ∷ record {
       number = 4;
       given = pos (readBlock (sizes 16 16) (split 0x00) 0x4000) ∷ pos (writeBlock (sizes 16 16) (split 0x00) 0x4000) ∷ [];
@@ -59,12 +90,22 @@ cases =
     ∷ record { number = 9; given = pos (tablePlace 0x99) ∷ []; said = pos (4 * 16384 + 0x3200) ∷ [] }
     ∷ record { number = 10; given = pos (entryOf 0xFF 1) ∷ []; said = pos 0 ∷ [] }
     ∷ record {
+      number = 11;
+      given = pos (stepByte counted [] [] (PortIn 0xF8)) ∷ pos (stepByte afterF8 [] [] (PortIn 0xF4)) ∷ pos (stepByte afterF4 [] [] (PortIn 0xF4)) ∷ [];
+      said = pos 0x53 ∷ pos 0x53 ∷ pos 0x50 ∷ [];
+    }
+    ∷ record {
       number = 12;
       given =
           pos (drawnByte 0x40 0xA5) ∷ pos (drawnByte 0xC0 0xA5) ∷ pos (drawnByte 0x00 0xA5) ∷ pos (drawnByte 0x80 0xA5) ∷ pos (doubledByte 0xA5 0)
           ∷ pos (doubledByte 0xA5 1)
           ∷ [];
       said = pos 0xA5 ∷ pos 0x5A ∷ pos 0x00 ∷ pos 0xFF ∷ pos 0xCC ∷ pos 0x33 ∷ [];
+    }
+    ∷ record {
+      number = 13;
+      given = scan 50 1 ++ scan 50 2 ++ scan 50 311 ++ scan 60 259;
+      said = pos 1 ∷ pos 2 ∷ pos 0 ∷ pos 3 ∷ pos 0 ∷ pos 0 ∷ pos 0 ∷ pos 0 ∷ [];
     }
     ∷ record {
       number = 14;
@@ -105,4 +146,12 @@ unfolding
     doubledByte
     nearest
     rollOf
-bench = (refl, (refl, (refl, (refl, (refl, (refl, (refl, (refl, (refl, (refl, (refl, (refl, (refl, tt)))))))))))))
+    freshBoard
+    statusByte
+    frame
+    nextBeam
+    ticks
+    scanned
+    moved
+    stepByte
+bench = (refl, (refl, (refl, (refl, (refl, (refl, (refl, (refl, (refl, (refl, (refl, (refl, (refl, (refl, (refl, tt)))))))))))))))

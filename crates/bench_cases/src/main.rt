@@ -1,4 +1,6 @@
-// Runs the bench cases of document 01 through the public functions and prints what they give, in hex.
+// Runs the bench cases of document 01 through the public functions and prints what they give: numbers in hex, and of a roll
+// whether it is as said.
+use board::Board;
 use paging::Paging;
 use paging::Sizes;
 use scanline::Pointer;
@@ -55,7 +57,7 @@ fn pointer_case(label: &[u8], word: u16) {
     text(b"\n");
 }
 
-// The places of two pixel bytes of a pointer word.
+// The place of a pixel byte of a pointer word.
 fn pixel_case(label: &[u8], word: u16, i: u8) {
     let p = scanline::read_pointer(word);
     text(label);
@@ -77,6 +79,58 @@ fn roll_case(label: &[u8], old: u8, new: u8, said: i8) {
     } else {
         text(b" not as said\n");
     }
+}
+
+// The board at its start on the smallest sizes.
+fn start(rate: u8) -> Board {
+    let sizes = Sizes {
+        internal: 8,
+        total: 8,
+    };
+    let p = Paging {
+        maps: [0x80, 0x25, 0x98, 0x87],
+        lock: 0,
+    };
+    board::power_on(sizes, rate, p, 0, 0).board
+}
+
+// Counter 3: the bytes that F8, F4 and F4 again give.
+fn status_case(label: &[u8], ram: &[u8]) {
+    let mut b = start(50);
+    b.clock.counter = 3;
+    let first = steps::port_in(b, 0xf8, ram, b"");
+    let second = steps::port_in(first.board, 0xf4, ram, b"");
+    let third = steps::port_in(second.board, 0xf4, ram, b"");
+    text(label);
+    block(first.byte);
+    block(second.byte);
+    block(third.byte);
+    text(b"\n");
+}
+
+// One scan from a beam with the counter at 0: the counter and the beam then.
+fn scan_case(label: &[u8], rate: u8, beam: u16, ram: &[u8]) {
+    let mut b = start(rate);
+    b.clock.beam = beam;
+    let a = steps::scan(b, ram, b"");
+    text(label);
+    block(a.board.clock.counter);
+    number(a.board.clock.beam as u64, 3);
+    text(b"\n");
+}
+
+fn clock_cases(ram: &[u8]) {
+    status_case(b"P11", ram);
+    scan_case(b"P13 1 to 2", 50, 1, ram);
+    scan_case(b"P13 2 to 3", 50, 2, ram);
+    scan_case(b"P13 311 to 0, 50 Hz", 50, 311, ram);
+    scan_case(b"P13 259 to 0, 60 Hz", 60, 259, ram);
+}
+
+// The cases of the clock, on a RAM of 8 blocks.
+fn with_ram() {
+    let ram = [0u8; 131072];
+    clock_cases(&ram);
 }
 
 // Pointers that are refused with 3.
@@ -112,6 +166,7 @@ fn main() {
     text(b"P12 widened");
     number(scanline::doubled(0xa5) as u64, 4);
     text(b"\n");
+    with_ram();
     roll_case(b"P14 255 to 0 is 1", 255, 0, 1);
     roll_case(b"P14 0 to 255 is -1", 0, 255, -1);
     roll_case(b"P14 0 to 128 is -128", 0, 128, -128);

@@ -1,14 +1,14 @@
 -- What a good record tells, part by part, and back.
 -- Assumes nothing.
-use Prim.Native.Nat.{ℕ, _≤_, _<_}
+use Prim.Native.Nat.{_≤_}
 use mathlib.Core.Path.{_≡_, refl, sym}
 use mathlib.Core.Bool.{Bool, true, false, _&&_, true≢false}
-use borrow.Author.Tests.{leb-true, ltb-true}
-use lib.Dec.{leb, ltb}
+use borrow.Author.Tests.{leb-true}
+use lib.Dec.{leb}
 use Rattle.lineset.specs.Lines.{inside}
 use Rattle.paging.specs.Memory.{allowed}
 use Rattle.board.specs.declared.record.Board.{Board}
-use Rattle.board.specs.Record.{good, goodRate, goodTime, goodDisc, goodFlags, shownSet, frame}
+use Rattle.board.specs.Record.{good, goodRate, goodTime, goodDisc, goodFlags, shownSet}
 
 pub both : (x y : Bool) → (x && y) ≡ true → (x ≡ true) × (y ≡ true)
 both true y e = (refl, e)

@@ -1,9 +1,8 @@
 -- Laws of marking: a set with more lines, and what changes between two moments with the same RAM.
 -- Assumes nothing.
-use Prim.Native.Nat.{ℕ, _+_, _/_, _<_, _^_}
-use native.Mathlib.Omega.{arith}
+use Prim.Native.Nat.{ℕ, _/_, _<_}
 use mathlib.Core.Path.{_≡_, refl, sym, _∙_, ap, ap₂}
-use mathlib.Core.Bool.{Bool, true, false, cond, not, _&&_, _||_, or-false, and-false, and-true, and-comm}
+use mathlib.Core.Bool.{Bool, true, false, not, _&&_, _||_, or-false, and-false, and-true, and-comm}
 use mathlib.Core.List.{List}
 use borrow.Author.Tests.{eqb-true, eq-eqb, ne-eqb}
 use lib.ListN.{getD, set, length}
@@ -11,7 +10,7 @@ use lib.Dec.{eqb, ltb}
 use Rattle.lineset.specs.declared.LineSet.{LineSet}
 use Rattle.lineset.specs.Lines.{setOf, member, shownLines}
 use Rattle.lineset.proofs.Sets.{Words, set-agree, set-members, member-set}
-use Rattle.scanline.specs.Drawing.{View, changed, ramChanged, touches}
+use Rattle.scanline.specs.Drawing.{changed, ramChanged, touches}
 use Rattle.scanline.proofs.Changes.{ram-same, store-changed}
 use Rattle.board.specs.declared.record.Board.{Board}
 use Rattle.board.specs.declared.record.Video.{Video}

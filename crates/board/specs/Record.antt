@@ -1,5 +1,5 @@
--- The board's record: when it is good, what it shows, and its parts replaced. Document 01, "What the box holds" and "Scan".
-use Prim.Native.Nat.{ℕ, _+_, _*_}
+-- The board's record: when it is good, what it shows, and its parts replaced. Document 01, "What the box holds", "Channels in" and "Scan".
+use Prim.Native.Nat.{ℕ, _+_}
 use mathlib.Core.Bool.{Bool, cond, not, _&&_, _||_}
 use mathlib.Core.List.{List}
 use lib.Dec.{eqb, ltb, leb}

@@ -1,4 +1,4 @@
-// What the channels and the scan do to the record.
+// What the scan, the channels and a store do to the record.
 ghost use mathlib.Core.Path.{_≡_};
 ghost use lib.ListN.{set};
 ghost use Rattle.board.specs.Record.{withClock};

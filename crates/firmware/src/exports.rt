@@ -2,14 +2,14 @@
 ghost use mathlib.Core.Path.{_≡_};
 ghost use Rattle.steps.specs.Steps.{stepAnswer, stepRam};
 ghost use Rattle.board.specs.Power.{started};
-ghost use Rattle.firmware.specs.Replies.{stepReply, startReply, asked, sizesOf, pagingOf, drawReply, refreshReply, nextReply};
+ghost use Rattle.replies.specs.Replies.{stepReply, startReply, asked, sizesOf, pagingOf, drawReply, refreshReply, nextReply};
 ghost use Rattle.picture.specs.Pictures.{drawAnswer, drawPicture, refreshAnswer, refreshPicture, nextAnswer};
-use crate::replies::drew;
-use crate::replies::noted;
-use crate::replies::powered;
-use crate::replies::redrew;
-use crate::replies::replied;
 use board::Board;
+use replies::drew;
+use replies::noted;
+use replies::powered;
+use replies::redrew;
+use replies::replied;
 
 #[no_mangle]
 pub extern "C" fn joyce_step(

@@ -4,12 +4,12 @@ ghost use lib.ListN.{length};
 ghost use Rattle.panel.specs.Roll.{rollOf};
 ghost use Rattle.panel.specs.Widen.{widenRefusal, widenedOut};
 ghost use Rattle.pointers.specs.Pointers.{pointerOf, madePointer};
-ghost use Rattle.firmware.specs.Replies.{madeReply, pointerReply, reachReply, differenceReply, sizesOf, pagingOf};
+ghost use Rattle.replies.specs.Replies.{madeReply, pointerReply, reachReply, differenceReply, sizesOf, pagingOf};
 ghost use Rattle.picture.specs.Pictures.{differenceAnswer};
-use crate::replies::differs;
-use crate::replies::reply;
 use paging::Paging;
 use paging::Sizes;
+use replies::differs;
+use replies::reply;
 use scanline::Pointer;
 
 // One line of 90 bytes as 180, each pixel twice; the refusal number.

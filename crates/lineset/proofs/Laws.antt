@@ -1,20 +1,19 @@
--- Laws of line sets: packing a test into words and reading it back, and what union, count and search make of packed words.
+-- Laws of packed words: packing a test and reading it back, and what union, intersection and count make of packed words.
 -- Assumes nothing.
-use Prim.Native.Nat.{ℕ, zero, suc, _+_, _-_, _*_, _/_, _%_, _^_, _≤_, _<_}
-use native.Mathlib.Nat.{add-suc, suc-add, add-zero, zero-add, add-assoc, pow-suc, le-of-suc-le-suc, not-suc-le-zero, div-one, mod-lt}
+use Prim.Native.Nat.{ℕ, zero, suc, _+_, _*_, _/_, _%_, _^_, _≤_, _<_}
+use native.Mathlib.Nat.{add-suc, suc-add, add-zero, zero-add, add-assoc, pow-suc, le-of-suc-le-suc, not-suc-le-zero, div-one}
 use native.Mathlib.Numerals.{one-add}
 use native.Mathlib.Omega.{arith}
 use mathlib.Core.Path.{_≡_, refl, sym, _∙_, ap, ap₂}
-use mathlib.Core.Bool.{Bool, true, false, cond, not, _&&_, _||_}
-use mathlib.Core.List.{List, [], _∷_}
-use lib.Dec.{eqb, ltb}
+use mathlib.Core.Bool.{Bool, true, false, _&&_, _||_}
+use lib.Dec.{eqb}
 use borrow.Author.Tests.{eqb-true, eqb-false, ne-eqb}
 use lib.Arith.{lt-of-le-ne}
 use lib.Bits.{bitOr, bitAnd, or-block, and-block}
-use lib.Count.{ones, ones-step, trailingZeros, under}
+use lib.Count.{ones, ones-step}
 use lib.Pow.{shr-shr}
 use mir.Val.{boolByte}
-use Rattle.lineset.specs.Lines.{packed, setOf, member, countOf, firstOf, every, any}
+use Rattle.lineset.specs.Lines.{packed, countOf}
 
 pub boolByte-lt : (b : Bool) → boolByte b < 2
 boolByte-lt true = omega arith
@@ -77,7 +76,7 @@ packed-agree p q from n h =
     packed-number p (packed q from n) from n (packed-lt q from n)
     (λ i l. ap boolByte (h i l) ∙ sym (packed-bit q from n i l))
 
--- ---- union, count and search of packed words
+-- ---- union, intersection and count of packed words
 
 or-digit : (a b : Bool) → bitOr (boolByte a) (boolByte b) ≡ boolByte (a || b)
 or-digit true true = refl

@@ -5,15 +5,14 @@ use native.Mathlib.Omega.{arith}
 use native.Mathlib.Nat.{add-zero, div-one}
 use mathlib.Core.Path.{_≡_, refl, sym, _∙_, ap, ap₂}
 use mathlib.Core.Bool.{Bool, true, false, not, _&&_, _||_}
-use mathlib.Core.List.{List, [], _∷_}
+use mathlib.Core.List.{[], _∷_}
 use borrow.Author.Tests.{eq-eqb, ne-eqb, eqb-true, eqb-false}
-use lib.Dec.{eqb, ltb}
+use lib.Dec.{eqb}
 use lib.Bits.{bitOr, bitAnd, or-block}
-use lib.Count.{ones, ones-le, trailingZeros}
+use lib.Count.{ones, trailingZeros}
 use lib.ListN.{getD}
 use mir.Val.{boolByte}
 use Rattle.lineset.specs.declared.LineSet.{LineSet}
-use Rattle.lineset.specs.declared.Line.{Line}
 use Rattle.lineset.specs.declared.Line.the-variants.{At, Nothing}
 use Rattle.lineset.specs.Lines.{packed, setOf, member, countOf, firstOf, every, inside}
 use Rattle.lineset.proofs.Laws.{boolByte-lt, packed-shift, or-packed, and-packed, ones-packed, count-add}

@@ -1,14 +1,13 @@
 -- Laws of searches: the first number that a test holds of, and tests of all numbers of a range.
 -- Assumes nothing.
-use Prim.Native.Nat.{ℕ, zero, suc, _+_, _-_, _*_, _/_, _%_, _^_, _≤_, _<_}
+use Prim.Native.Nat.{ℕ, zero, suc, _+_, _/_, _%_, _≤_, _<_}
 use native.Mathlib.Nat.{add-suc, suc-add, add-zero, zero-add, le-of-suc-le-suc, not-suc-le-zero}
 use native.Mathlib.Omega.{arith}
 use mathlib.Core.Path.{_≡_, refl, sym, _∙_, ap, ap₂}
-use mathlib.Core.Bool.{Bool, true, false, cond, _&&_, true≢false, and-assoc}
+use mathlib.Core.Bool.{Bool, true, false, _&&_, true≢false, and-assoc}
 use lib.Count.{trailingZeros, under}
 use mir.Val.{boolByte}
-use Rattle.lineset.specs.declared.Line.{Line}
-use Rattle.lineset.specs.declared.Line.the-variants.{At, Nothing}
+use Rattle.lineset.specs.declared.Line.the-variants.{At}
 use Rattle.lineset.specs.Lines.{packed, firstOf, every}
 use Rattle.lineset.proofs.Laws.{packed-low, packed-half}
 

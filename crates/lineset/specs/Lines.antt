@@ -1,7 +1,7 @@
--- Sets of scan lines, and what is asked of them. A property of line numbers is a test on numbers, ℕ → Bool.
+-- Sets of scan lines (document 01: the notes), and what is asked of them. A property of line numbers is a test on numbers, ℕ → Bool.
 use Prim.Native.Nat.{ℕ, zero, suc, _+_, _*_, _/_, _%_, _^_}
 use mathlib.Core.Bool.{Bool, true, false, cond, not, _&&_, _||_}
-use mathlib.Core.List.{List, [], _∷_}
+use mathlib.Core.List.{[], _∷_}
 use lib.Dec.{eqb}
 use lib.ListN.{getD}
 use mir.Val.{boolByte}
@@ -22,7 +22,7 @@ setOf p = record { words = packed p 0 64 ∷ packed p 64 64 ∷ packed p 128 64 
 unfoldable pub member : LineSet → ℕ → Bool
 member s L = eqb (getD (s .words) (L / 64) 0 / 2 ^ (L % 64) % 2) 1
 
--- of the n numbers from `from` on: how many p holds of, the first that it holds of, whether it holds of all, and of any
+-- of the n numbers from `from` on: how many p holds of (the redraw count), the first that it holds of, whether it holds of all, and of any
 unfoldable pub countOf : (ℕ → Bool) → ℕ → ℕ → ℕ
 countOf p from zero = 0
 countOf p from (suc n) = boolByte (p from) + countOf p (suc from) n

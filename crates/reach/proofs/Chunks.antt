@@ -1,12 +1,12 @@
 -- A long input may be cut after any whole group: its text is the text of the parts, one after the other.
 use Prim.Native.Nat.{ℕ, zero, suc, _+_, _*_, _/_, _%_, _≤_}
-use mathlib.Core.Path.{_≡_, refl, sym, ap, _∙_}
-use mathlib.Core.List.{List, [], _++_, append-assoc, append-nil}
+use mathlib.Core.Path.{_≡_, refl}
+use mathlib.Core.List.{List, _++_, append-assoc, append-nil}
 use native.Mathlib.Omega.{arith}
 use native.Mathlib.Nat.{add-suc, add-zero}
-use lib.ListN.{length, take, drop, length-append, length-drop}
+use lib.ListN.{length, drop, length-append, length-drop}
 use lib.Seq.{take-append-le, drop-append-le, drop-append-add}
-use Rattle.reach.specs.Text.{groupLine, lineAt, textOf, groups, reachText}
+use Rattle.reach.specs.Text.{lineAt, textOf, groups, reachText}
 
 module _ (a b : List ℕ) where
   line-first : (k : ℕ) → 9 * k + 9 ≤ length a → lineAt (a ++ b) k ≡ lineAt a k

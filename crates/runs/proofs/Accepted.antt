@@ -3,12 +3,12 @@
 use Prim.Native.Nat.{ℕ, _≤_, _<_}
 use native.Mathlib.Omega.{arith}
 use mathlib.Core.Path.{_≡_, refl, sym, _∙_, ap}
-use mathlib.Core.Bool.{Bool, true, false, cond, _&&_, true≢false}
+use mathlib.Core.Bool.{Bool, true, false, cond, _&&_}
 use mathlib.Core.List.{List}
-use borrow.Author.Tests.{eqb-true, eqb-false, ltb-true}
+use borrow.Author.Tests.{eqb-true, eqb-false}
 use lib.Dec.{eqb, ltb}
 use lib.ListN.{length}
-use Rattle.lineset.specs.Lines.{setOf, member, inside, shownLines}
+use Rattle.lineset.specs.Lines.{member, shownLines}
 use Rattle.lineset.proofs.Sets.{Words, words-set, member-set}
 use Rattle.paging.specs.declared.Sizes.{Sizes}
 use Rattle.paging.specs.declared.Paging.{Paging}
@@ -20,9 +20,9 @@ use Rattle.board.specs.Marks.{marked}
 use Rattle.board.proofs.Good.{Parts, good-parts, parts-good, both}
 use Rattle.steps.specs.declared.answers.Step.{Step}
 use Rattle.steps.specs.Steps.{moved, stored, settled, lentRefusal, ownRefusal, stepRefusal, stepBoard, stepAnswer}
-use Rattle.steps.proofs.Answering.{lent-boot, lent-good, plain}
+use Rattle.steps.proofs.Answering.{lent-boot, plain}
 use Rattle.runs.proofs.Model.{accepted-board, refused-board}
-use Rattle.runs.proofs.Keeping.{Time, time-of, of-time, moved-time, Ranges, ranges-of, moved-ranges, settled-disc, Flags, flags-of, of-flags, moved-flags, moved-sizes, moved-rate, moved-dirty, marks-shown, inside-all}
+use Rattle.runs.proofs.Keeping.{time-of, of-time, moved-time, ranges-of, moved-ranges, settled-disc, flags-of, of-flags, moved-flags, moved-sizes, moved-rate, moved-dirty, marks-shown, inside-all}
 
 -- neither record and buffers nor the kind itself refuse an accepted step
 module _ (b : Board) (ram boot : List ℕ) (s : Step) (e : stepRefusal b ram boot s ≡ 0) where

@@ -1,27 +1,27 @@
 -- After an accepted refresh of an undisturbed run the picture is, whole, what a full draw makes of the picture at the start.
 -- Assumes nothing.
-use Prim.Native.Nat.{ℕ, _+_, _*_, _/_, _%_, _≤_, _<_}
+use Prim.Native.Nat.{ℕ, _+_, _*_, _/_, _%_, _<_}
 use native.Mathlib.Omega.{arith}
-use mathlib.Core.Path.{_≡_, refl, sym, _∙_, ap, ap₂, subst}
+use mathlib.Core.Path.{_≡_, refl, sym, _∙_, ap, subst}
 use mathlib.Core.Bool.{Bool, true, false, cond, true≢false}
 use mathlib.Core.List.{List, [], _∷_}
-use borrow.Author.Tests.{eqb-true, ltb-true, ltb-false, lt-ltb, le-ltb}
-use lib.Dec.{eqb, ltb}
+use borrow.Author.Tests.{ltb-true, ltb-false}
+use lib.Dec.{ltb}
 use lib.ListN.{getD, length}
 use lib.Seq.{ext-getD}
 use Rattle.lineset.specs.Lines.{shownLines}
 use Rattle.scanline.specs.Drawing.{drawn}
 use Rattle.board.specs.declared.record.Board.{Board}
-use Rattle.board.specs.Power.{freshBoard, startRefusal}
-use Rattle.board.specs.Record.{good, viewOf}
-use Rattle.picture.specs.Pictures.{painted, shown, pictureRefusal, drawPicture, refreshAnswer, refreshPicture}
+use Rattle.board.specs.Power.{freshBoard}
+use Rattle.board.specs.Record.{viewOf}
+use Rattle.picture.specs.Pictures.{painted, shown, drawPicture, refreshPicture}
 use Rattle.runs.specs.Reference.{refreshRefused}
-use Rattle.runs.specs.Events.{Event, step, refresh, others, Machine, stepped, redrawn, RefreshReturns, Pictures, DrawnWhole}
+use Rattle.runs.specs.Events.{Event, step, refresh, others, Machine, stepped, redrawn, Pictures, DrawnWhole}
 use Rattle.runs.proofs.Accepted.{start-board}
 use Rattle.runs.proofs.Mirroring.{mirror}
 use Rattle.runs.proofs.Painting.{painted-length, painted-at}
 use Rattle.runs.proofs.Standing.{Holds, step-holds}
-use Rattle.runs.proofs.Redrawing.{accepted-length, same, left-accepted, all-shown, kept-outside, refresh-returns, refresh-holds}
+use Rattle.runs.proofs.Redrawing.{same, all-shown, kept-outside, refresh-returns, refresh-holds}
 use Rattle.runs.proofs.Whole.{first-holds}
 
 module _ (start : List ℕ) (m : Machine) (h : Holds true start m) (e : refreshRefused (mirror (m .board) (m .ram)) (length (m .picture)) ≡ 0) where

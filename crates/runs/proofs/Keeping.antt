@@ -1,34 +1,28 @@
--- An accepted step keeps the record good, and power-on starts with a good one.
+-- The ranges of a good record, part by part, and that a step keeps them.
 -- Assumes nothing.
 use native.Mathlib.Nat.{zero-add}
-use Prim.Native.Nat.{ℕ, _+_, _*_, _≤_, _<_, min}
+use Prim.Native.Nat.{ℕ, _+_, _≤_, _<_, min}
 use native.Mathlib.Omega.{arith}
-use mathlib.Core.Path.{_≡_, refl, sym, _∙_, ap, ap₂}
+use mathlib.Core.Path.{_≡_, refl, sym, _∙_}
 use mathlib.Core.Bool.{Bool, true, false, cond, not, _&&_, _||_, true≢false}
 use mathlib.Core.List.{List}
-use borrow.Author.Tests.{eqb-true, eqb-false, eq-eqb, ne-eqb, leb-true, leb-false, le-leb, ltb-true, ltb-false, lt-ltb}
+use borrow.Author.Tests.{leb-true, leb-false, le-leb, ltb-true, lt-ltb}
 use lib.Dec.{eqb, ltb, leb}
-use lib.ListN.{length}
 use mir.Val.{boolByte}
 use Rattle.lineset.specs.declared.LineSet.{LineSet}
-use Rattle.lineset.specs.Lines.{setOf, member, inside, every, shownLines}
+use Rattle.lineset.specs.Lines.{setOf, member, inside, shownLines}
 use Rattle.lineset.proofs.Sets.{member-set}
 use Rattle.lineset.proofs.Search.{every-at, every-all}
-use Rattle.paging.specs.declared.Sizes.{Sizes}
-use Rattle.paging.specs.declared.Paging.{Paging}
-use Rattle.paging.specs.Memory.{allowed}
 use Rattle.scanline.specs.Drawing.{changed}
 use Rattle.board.specs.declared.record.Board.{Board}
 use Rattle.board.specs.declared.record.Disc.{Disc}
-use Rattle.board.specs.Power.{freshBoard, startRefusal, started}
-use Rattle.board.specs.Record.{good, goodTime, goodDisc, goodFlags, goodRate, shownSet, frame, nmiOf, viewOf}
+use Rattle.board.specs.Record.{goodTime, goodDisc, goodFlags, shownSet, frame, nmiOf, viewOf}
 use Rattle.board.specs.Registers.{command, nextBeam, ticks, scanned, written, clockTold, bootTold, discTold, drivenTold, bleeperTold}
 use Rattle.board.specs.Marks.{marked}
-use Rattle.board.proofs.Good.{Parts, good-parts, parts-good, both}
+use Rattle.board.proofs.Good.{both}
 use Rattle.steps.specs.declared.answers.Step.{Step}
 use Rattle.steps.specs.declared.answers.Step.the-variants.{Fetch, Read, Write, PortIn, PortOut, Scan, Key, DiscLine, ExternalLine}
-use Rattle.steps.specs.Steps.{moved, stored, settled, lentRefusal, ownRefusal, stepRefusal, stepBoard, stepAnswer}
-use Rattle.runs.proofs.Model.{accepted-board}
+use Rattle.steps.specs.Steps.{moved, settled, ownRefusal}
 
 -- a choice between two numbers in range
 cond-le : (t : Bool) {m n k : ℕ} → m ≤ k → n ≤ k → cond t m n ≤ k

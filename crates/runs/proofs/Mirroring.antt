@@ -1,11 +1,11 @@
 -- At each point of a run the reference is the mirror of board and RAM: a step keeps it so.
 -- Assumes nothing.
-use Prim.Native.Nat.{ℕ, _*_, _≤_, _<_}
+use Prim.Native.Nat.{ℕ, _*_, _≤_}
 use native.Mathlib.Omega.{arith}
 use mathlib.Core.Path.{_≡_, refl, sym, _∙_, ap, ap₂, fun-ext}
-use mathlib.Core.Bool.{Bool, true, false, cond, not, _&&_, _||_, or-false, and-false, true≢false}
+use mathlib.Core.Bool.{Bool, true, false, cond, _&&_, _||_, or-false, and-false, true≢false}
 use mathlib.Core.List.{List}
-use borrow.Author.Tests.{eqb-true, eqb-false, eq-eqb, ne-eqb, ltb-true, ltb-false, le-ltb}
+use borrow.Author.Tests.{eqb-true, eqb-false, ltb-true, ltb-false, le-ltb}
 use lib.Dec.{eqb, ltb, leb}
 use lib.ListN.{length}
 use Rattle.lineset.specs.declared.LineSet.{LineSet}
@@ -20,7 +20,7 @@ use Rattle.board.specs.Marks.{marked}
 use Rattle.steps.specs.declared.answers.Step.{Step}
 use Rattle.steps.specs.declared.answers.Step.the-variants.{Fetch, Read, Write, PortIn, PortOut, Scan, Key, DiscLine, ExternalLine}
 use Rattle.steps.specs.Steps.{moved, stored, settled, lentRefusal, ownRefusal, stepRefusal, stepBoard, stepAnswer, stepRam}
-use Rattle.runs.specs.Reference.{Reference, viewIn, kindRefused, stepRefused, pagingFed, videoFed, ramFed, advanced, stepFed}
+use Rattle.runs.specs.Reference.{Reference, kindRefused, stepRefused, pagingFed, videoFed, ramFed, advanced, stepFed}
 use Rattle.runs.specs.Events.{atEnd}
 use Rattle.runs.proofs.Model.{accepted-board, accepted-ram, refused-board, refused-ram}
 use Rattle.runs.proofs.Keeping.{moved-sizes, moved-rate}

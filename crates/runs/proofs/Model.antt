@@ -1,27 +1,14 @@
 -- Laws about the model of a step that are true of every step.
 -- Assumes nothing.
-use Prim.Native.Nat.{ℕ, _+_, _*_, _≤_, _<_, min}
-use native.Mathlib.Omega.{arith}
-use mathlib.Core.Path.{_≡_, refl, sym, _∙_, ap, ap₂}
-use mathlib.Core.Bool.{Bool, true, false, cond, not, _&&_, _||_, true≢false}
+use Prim.Native.Nat.{ℕ}
+use mathlib.Core.Path.{_≡_, refl, sym}
+use mathlib.Core.Bool.{Bool, true, false, cond}
 use mathlib.Core.List.{List}
-use borrow.Author.Tests.{eqb-true, eqb-false, eq-eqb, ne-eqb, leb-true, leb-false, le-leb, ltb-true, ltb-false, lt-ltb}
-use lib.Dec.{eqb, ltb, leb}
-use lib.ListN.{length}
-use mir.Val.{boolByte}
-use Rattle.lineset.specs.declared.LineSet.{LineSet}
-use Rattle.lineset.specs.Lines.{setOf, member, inside, every, shownLines}
-use Rattle.lineset.proofs.Sets.{Words, words-set, member-set}
-use Rattle.lineset.proofs.Search.{every-at, every-all}
+use borrow.Author.Tests.{eqb-true, ne-eqb}
+use lib.Dec.{eqb}
 use Rattle.board.specs.declared.record.Board.{Board}
-use Rattle.board.specs.Record.{good, goodTime, goodDisc, goodFlags, goodRate, shownSet, frame, nmiOf, viewOf}
-use Rattle.board.specs.Registers.{command, nextBeam, scanned, ticks, written, clockTold, bootTold, discTold, drivenTold, bleeperTold, pagingOut, videoOut}
-use Rattle.board.specs.Marks.{marked}
-use Rattle.board.proofs.Good.{Parts, good-parts, parts-good, both}
-use Rattle.scanline.specs.Drawing.{changed}
 use Rattle.steps.specs.declared.answers.Step.{Step}
-use Rattle.steps.specs.declared.answers.Step.the-variants.{Fetch, Read, Write, PortIn, PortOut, Scan, Key, DiscLine, ExternalLine}
-use Rattle.steps.specs.Steps.{moved, stored, settled, lentRefusal, ownRefusal, stepRefusal, stepBoard, acceptedAnswer, refusedAnswer, stepAnswer, stepRam, stepByte, forwardedStep}
+use Rattle.steps.specs.Steps.{stored, settled, stepRefusal, stepBoard, acceptedAnswer, refusedAnswer, stepAnswer, stepRam, stepByte, forwardedStep}
 
 module _ (b : Board) (ram boot : List ℕ) (s : Step) where
   -- an accepted step, and a refused one, which changes nothing

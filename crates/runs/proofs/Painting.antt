@@ -7,7 +7,7 @@ use mathlib.Core.Bool.{Bool, cond}
 use mathlib.Core.List.{List}
 use lib.ListN.{getD, length}
 use Rattle.scanline.specs.Drawing.{View, drawn}
-use Rattle.picture.specs.Pictures.{over, painted}
+use Rattle.picture.specs.Pictures.{painted}
 use Rattle.picture.proofs.Over.{over-length, over-at}
 
 pub painted-length : (lines : ℕ → Bool) (v : View) (picture : List ℕ) → length (painted lines v picture) ≡ length picture

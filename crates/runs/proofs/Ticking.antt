@@ -2,21 +2,21 @@
 -- Assumes nothing.
 use Prim.Native.Nat.{ℕ, _+_, _≤_, min}
 use native.Mathlib.Omega.{arith}
-use mathlib.Core.Path.{_≡_, refl, sym, _∙_, ap}
+use mathlib.Core.Path.{_≡_, refl}
 use mathlib.Core.Bool.{Bool, true, false, cond, _&&_}
 use mathlib.Core.List.{List, [], _∷_}
 use borrow.Author.Tests.{eqb-true, eqb-false}
 use lib.Dec.{eqb}
 use mir.Val.{boolByte}
 use Rattle.board.specs.declared.record.Board.{Board}
-use Rattle.board.specs.Power.{freshBoard, startRefusal, started}
+use Rattle.board.specs.Power.{freshBoard}
 use Rattle.board.specs.Record.{good}
 use Rattle.board.specs.Registers.{command, nextBeam, ticks, scanned, written, clockTold}
 use Rattle.board.specs.Marks.{marked}
 use Rattle.board.proofs.Good.{good-counter}
 use Rattle.steps.specs.declared.answers.Step.{Step}
 use Rattle.steps.specs.declared.answers.Step.the-variants.{Fetch, Read, Write, PortIn, PortOut, Scan, Key, DiscLine, ExternalLine}
-use Rattle.steps.specs.Steps.{moved, stored, settled, stepRefusal, stepBoard, stepAnswer, stepRam}
+use Rattle.steps.specs.Steps.{moved, settled, stepRefusal, stepBoard, stepAnswer, stepRam}
 use Rattle.runs.specs.Ticks.{Call, landed, handed, found, thrown, total, last, TickAccount}
 use Rattle.runs.proofs.Model.{accepted-board, refused-board}
 use Rattle.runs.proofs.Accepted.{step-good, start-board, start-good}

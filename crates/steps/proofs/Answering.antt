@@ -5,16 +5,15 @@ use native.Mathlib.Omega.{arith}
 use mathlib.Core.Path.{_≡_, refl, sym, _∙_, ap}
 use mathlib.Core.Bool.{Bool, true, false, cond, _&&_}
 use mathlib.Core.List.{List}
-use borrow.Author.Tests.{eq-eqb, ne-eqb, leb-true, eqb-true}
+use borrow.Author.Tests.{ne-eqb, leb-true, eqb-true}
 use lib.Dec.{eqb, leb}
 use lib.ListN.{length}
 use Rattle.lineset.proofs.Sets.{Words}
 use Rattle.board.specs.declared.record.Board.{Board}
-use Rattle.board.specs.Record.{good, goodTime}
+use Rattle.board.specs.Record.{good}
 use Rattle.board.specs.Marks.{marked}
 use Rattle.board.proofs.Good.{both}
 use Rattle.board.proofs.Marking.{marked-none}
-use Rattle.steps.specs.declared.answers.Answer.{Answer}
 use Rattle.steps.specs.declared.answers.Step.{Step}
 use Rattle.steps.specs.Steps.{moved, stored, stepByte, forwardedStep, lentRefusal, ownRefusal, stepRefusal, stepBoard, acceptedAnswer, refusedAnswer, stepAnswer, stepRam, ownAnswer, ownRam}
 

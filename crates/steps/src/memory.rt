@@ -68,7 +68,7 @@ pub(crate) fn take_key(b: Board, offset: u8, value: u8, ram: &mut [u8], boot: &[
         return refused(b, 3);
     }
     let at = paging::keyboard_place(offset);
-    let after = b.store(ram, at, value);
+    let keyed = b.store(ram, at, value);
     put(ram, at, value);
-    accepted(after, 0, false)
+    accepted(keyed, 0, false)
 }

@@ -10,7 +10,7 @@ use joyce::reply::Drawn;
 /// The sizes a RAM of this length can have; drawing is the same for each of them.
 fn sizes_of(length: usize) -> Result<Sizes, String> {
     let total = length / BLOCK;
-    let whole = length.is_multiple_of(BLOCK) && (8..=128).contains(&total);
+    let whole = length % BLOCK == 0 && (8..=128).contains(&total);
     if !whole {
         return Err(format!("a RAM of {length} bytes; it must be 8 to 128 blocks of {BLOCK}"));
     }

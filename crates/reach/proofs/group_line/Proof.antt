@@ -1,9 +1,7 @@
 -- `group_line` meets its contract: its test is that of groupLine.
 use Prim.Native.Nat.{_+_, _-_}
-use mathlib.Core.Path.{_≡_, _∙_, ap}
+use mathlib.Core.Path.{_≡_, _∙_}
 use native.Mathlib.Omega.{arith}
-use lib.ListN.{take, drop}
-use Rattle.reach.specs.Text.{wholeLine}
 use Rattle.reach.proofs.Laws.{group-short, group-whole}
 use borrow.Author.Needs.{needs}
 use Rattle.reach.proofs.group_line.Statement.{statement}

@@ -1,6 +1,7 @@
--- `firmware::joyce_step` meets its contract: a walk of its MIR, by hand, as walk.py writes it. The board's borrow is opened, the board is copied to a local and passed to `replied` with the other parameters, each `&mut` at its own lifetime, share and name; the board that comes back is stored whole over the old one; and the borrow is closed at it.
--- All that the proof knows of `replied` is that it meets its contract.
--- Assumes nothing.
+-- `joyce_step` meets its contract: a walk of its code in the program logic. The borrow of the board is opened, the board is copied
+-- and passed by value to the function that does the work, with the other parameters; the board that comes back is stored over
+-- the old one, and the borrow is closed at it.
+-- All that is used of that function is its contract. Assumes nothing.
 use mathlib.Core.Path.{_≡_, refl, ap}
 use Prim.Native.Nat.{ℕ, _+_, _<_, _≤_, _^_}
 use mathlib.Core.Bool.{Bool}
@@ -45,17 +46,17 @@ use denote.Triple.Table.{entered, cited}
 use denote.Triple.Walked.{says, needs, Stays, stay-ref, stay-none, stay-none-ref, stay-none-slice, gave-slice, walkOf, goes-ref, goes-none, goes-none-ref, goes-none-slice, goes-gave-slice, Walks, ends-at, walked, walk-meets}
 use denote.Exit.{yes}
 use Rattle.board.specs.declared.record.Board.{Board}
-use Rattle.firmware.specs.declared.replies.Returned.{Returned}
+use Rattle.replies.specs.declared.packing.Returned.{Returned}
 use Rattle.steps.specs.Steps.{stepAnswer, stepRam}
-use Rattle.firmware.specs.Replies.{stepReply, asked}
+use Rattle.replies.specs.Replies.{stepReply, asked}
 use Rattle.board.proofs.record.Board as T
 use Rattle.board.proofs.record.Board.Laws as T′
-use Rattle.firmware.proofs.replies.Returned as S
-use Rattle.firmware.proofs.replies.Returned.Laws as S′
-use Rattle.firmware.proofs.replies.replied as callee
-use Rattle.firmware.proofs.replies.replied.Symbol as callee-def
-use Rattle.firmware.proofs.replies.replied.Symbol.{name as #callee}
-use Rattle.firmware.proofs.replies.replied.Met as callee-thm
+use Rattle.replies.proofs.packing.Returned as S
+use Rattle.replies.proofs.packing.Returned.Laws as S′
+use Rattle.replies.proofs.packing.replied as callee
+use Rattle.replies.proofs.packing.replied.Symbol as callee-def
+use Rattle.replies.proofs.packing.replied.Symbol.{name as #callee}
+use Rattle.replies.proofs.packing.replied.Met as callee-thm
 use Rattle.firmware.proofs.exports.joyce_step.Key.{name as #own}
 use Rattle.firmware.proofs.exports.joyce_step as f
 use Rattle.firmware.proofs.exports.joyce_step.Statement as stated
@@ -161,4 +162,4 @@ joyce-step-spec 𝓤 H 𝓜 𝓖 𝓡 =
     entered 𝓤 H (tripleOf 𝓤 H (𝓖 .A) f.signature (f.spec 𝓤 H (𝓖 .A) (𝓜 .mem) (𝓡 .run)))
     (tables 𝓤 H 𝓜 𝓡 code.env .C) (tables 𝓤 H 𝓜 𝓡 code.env .Λ) #own code.function (code.unfolded 𝓤 H 𝓜 𝓡)
     (meets 𝓤 H (𝓖 .A) (givenOf 𝓤 H 𝓜 𝓖) (𝓜 .mem) (𝓡 .run) (tablesOf 𝓤 H 𝓜 (tables 𝓤 H 𝓜 𝓡 code.env))
-    (cited 𝓤 H (Called 𝓤 H (𝓖 .A) (𝓜 .mem) (𝓡 .run)) 𝓜 𝓡 code.env #callee callee-def.routine code.calls-firmware·replies·replied (callee-thm.met 𝓤 H 𝓜 𝓖 𝓡)))
+    (cited 𝓤 H (Called 𝓤 H (𝓖 .A) (𝓜 .mem) (𝓡 .run)) 𝓜 𝓡 code.env #callee callee-def.routine code.calls-replies·packing·replied (callee-thm.met 𝓤 H 𝓜 𝓖 𝓡)))

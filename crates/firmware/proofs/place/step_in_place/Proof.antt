@@ -1,6 +1,7 @@
--- `firmware::step_in_place` meets its contract: a walk of its MIR, by hand, as walk.py writes it. The board's borrow is opened, the board is copied to a local and passed to `stepped` with the other parameters, each `&mut` at its own lifetime, share and name; the board that comes back is stored whole over the old one; and the borrow is closed at it.
--- All that the proof knows of `stepped` is that it meets its contract.
--- Assumes nothing.
+-- `step_in_place` meets its contract: a walk of its code in the program logic. The borrow of the board is opened, the board is copied
+-- and passed by value to the function that does the work, with the other parameters; the board that comes back is stored over
+-- the old one, and the borrow is closed at it.
+-- All that is used of that function is its contract. Assumes nothing.
 use mathlib.Core.Path.{_≡_, refl, ap}
 use Prim.Native.Nat.{ℕ, _+_, _<_, _≤_, _^_}
 use mathlib.Core.Bool.{Bool}
@@ -47,7 +48,7 @@ use denote.Exit.{yes}
 use Rattle.board.specs.declared.record.Board.{Board}
 use Rattle.firmware.specs.declared.place.Moved.{Moved}
 use Rattle.steps.specs.Steps.{stepAnswer, stepRam}
-use Rattle.firmware.specs.Replies.{toldOf}
+use Rattle.firmware.specs.Place.{toldOf}
 use Rattle.board.proofs.record.Board as T
 use Rattle.board.proofs.record.Board.Laws as T′
 use Rattle.steps.specs.declared.answers.Step.{Step}

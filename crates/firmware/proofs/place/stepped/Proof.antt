@@ -1,6 +1,6 @@
 -- What `step` answers, its record apart from the rest.
 -- Assumes nothing.
-use Rattle.firmware.specs.Replies.{toldOf}
+use Rattle.firmware.specs.Place.{toldOf}
 use borrow.Author.Needs.{needs}
 use Rattle.firmware.proofs.place.stepped.Statement.{statement}
 use Rattle.firmware.proofs.place.stepped.Tie as tie

@@ -1,13 +1,12 @@
 -- What `make_pointer` gives, packed; wider numbers are refused as it refuses.
 -- Assumes nothing.
-use mathlib.Core.Path.{_≡_, refl, sym, _∙_, ap}
+use mathlib.Core.Path.{sym, _∙_, ap}
 use native.Mathlib.Omega.{arith}
 use mathlib.Core.Logic.{inl, inr}
 use borrow.Author.Tests.{lt-ltb}
 use Rattle.pointers.specs.declared.Made.{Made}
-use Rattle.pointers.specs.declared.Pointer.{Pointer}
 use Rattle.pointers.proofs.Laws.{made-refused}
-use Rattle.firmware.specs.Replies.{madeReply}
+use Rattle.replies.specs.Replies.{madeReply}
 use borrow.Author.Needs.{needs}
 use Rattle.firmware.proofs.plain.joyce_make_pointer.Statement.{statement}
 use Rattle.firmware.proofs.plain.joyce_make_pointer.Tie as tie

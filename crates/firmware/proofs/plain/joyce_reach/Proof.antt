@@ -1,10 +1,10 @@
 -- By the test of the sizes: 6, or the place and both blocks.
 -- Assumes nothing.
-use mathlib.Core.Path.{_≡_, refl, sym, _∙_, ap}
+use mathlib.Core.Path.{_≡_, sym, _∙_}
 use mathlib.Core.Bool.{true, false}
 use borrow.Author.Tests.{not-true, not-false}
 use Rattle.paging.specs.Memory.{allowed}
-use Rattle.firmware.specs.Replies.{reachReply, sizesOf}
+use Rattle.replies.specs.Replies.{reachReply, sizesOf}
 use borrow.Author.Needs.{needs}
 use Rattle.firmware.proofs.plain.joyce_reach.Statement.{statement}
 use Rattle.firmware.proofs.plain.joyce_reach.Tie as tie

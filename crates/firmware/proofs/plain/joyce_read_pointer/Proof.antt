@@ -1,8 +1,8 @@
 -- What `read_pointer` gives, packed.
 -- Assumes nothing.
-use mathlib.Core.Path.{_≡_, refl, sym, _∙_, ap}
+use mathlib.Core.Path.{_∙_, ap}
 use Rattle.pointers.specs.declared.Pointer.{Pointer}
-use Rattle.firmware.specs.Replies.{pointerReply}
+use Rattle.replies.specs.Replies.{pointerReply}
 use borrow.Author.Needs.{needs}
 use Rattle.firmware.proofs.plain.joyce_read_pointer.Statement.{statement}
 use Rattle.firmware.proofs.plain.joyce_read_pointer.Tie as tie

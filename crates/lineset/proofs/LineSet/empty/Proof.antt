@@ -2,7 +2,7 @@
 -- Assumes nothing.
 use mathlib.Core.Path.{refl}
 use mathlib.Core.Bool.{false}
-use Rattle.lineset.specs.Lines.{packed, setOf}
+use Rattle.lineset.specs.Lines.{packed}
 use Rattle.lineset.proofs.Operations.{four-words}
 use Rattle.lineset.proofs.LineSet.empty.Statement.{statement}
 use Rattle.lineset.proofs.LineSet.empty.Tie as tie

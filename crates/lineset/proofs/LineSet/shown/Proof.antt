@@ -4,7 +4,6 @@ use Prim.Native.Nat.{ℕ}
 use mathlib.Core.Path.{_≡_, refl, sym, _∙_, ap}
 use borrow.Author.Tests.{eq-eqb, ne-eqb}
 use lib.Dec.{ltb}
-use Rattle.lineset.specs.declared.LineSet.{LineSet}
 use Rattle.lineset.specs.Lines.{packed, setOf, shownLines}
 use Rattle.lineset.proofs.Operations.{four-words}
 use Rattle.lineset.proofs.LineSet.shown.Statement.{statement}

@@ -1,6 +1,6 @@
 -- By whether the NMI stands: shown, and then the route is none.
 -- Assumes nothing.
-use mathlib.Core.Path.{_≡_, refl, sym, _∙_, ap}
+use mathlib.Core.Path.{_≡_, sym, _∙_}
 use mathlib.Core.Bool.{true, false}
 use Rattle.board.specs.Record.{nmiOf}
 use Rattle.steps.specs.Steps.{acceptedAnswer, settled}

@@ -1,6 +1,6 @@
 -- As a write, at the keyboard byte's place; 3 for an offset over 15.
 -- Assumes nothing.
-use mathlib.Core.Path.{_≡_, refl, sym, _∙_, ap}
+use mathlib.Core.Path.{_≡_, sym, _∙_, ap}
 use denote.Ref.{now}
 use Prim.Native.Nat.{ℕ}
 use native.Mathlib.Omega.{arith}

@@ -1,7 +1,7 @@
 -- By the range that the channel is in.
 -- Assumes nothing.
 use borrow.Author.Needs.{needs}
-use mathlib.Core.Path.{_≡_, refl, sym, _∙_, ap}
+use mathlib.Core.Path.{sym}
 use native.Mathlib.Omega.{arith}
 use Rattle.board.specs.Registers.{forwardedOut}
 use Rattle.steps.proofs.Channels.{forwarded-expansion, forwarded-printer, forwarded-low, forwarded-top, board-channel}

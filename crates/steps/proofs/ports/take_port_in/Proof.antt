@@ -1,6 +1,6 @@
 -- By the channel: 00h, F4h, F8h, those that the host takes, and the refused.
 -- Assumes nothing.
-use mathlib.Core.Path.{_≡_, refl, sym, _∙_, ap}
+use mathlib.Core.Path.{_≡_, refl, sym, _∙_}
 use denote.Ref.{now}
 use Prim.Native.Nat.{ℕ}
 use lib.ListN.{getD}

@@ -1,6 +1,6 @@
 -- Refused for record or buffers, or what the kind itself answers.
 -- Assumes nothing.
-use mathlib.Core.Path.{_≡_, refl, sym, _∙_, ap}
+use mathlib.Core.Path.{_≡_, refl, sym, _∙_}
 use denote.Ref.{now}
 use lib.ListN.{length}
 use Rattle.board.proofs.Good.{good-counter}

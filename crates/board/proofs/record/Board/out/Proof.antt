@@ -2,7 +2,7 @@
 -- Assumes nothing.
 use mathlib.Core.Path.{_∙_, ap}
 use Rattle.board.specs.declared.record.Board.{Board}
-use Rattle.board.specs.Registers.{noted, written}
+use Rattle.board.specs.Registers.{noted}
 use borrow.Author.Needs.{needs}
 use Rattle.board.proofs.record.Board.out.Statement.{statement}
 use Rattle.board.proofs.record.Board.out.Tie as tie

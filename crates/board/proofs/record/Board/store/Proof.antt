@@ -10,7 +10,6 @@ use mir.Val.{Fits}
 use mir.Syntax.{w64}
 use Rattle.lineset.proofs.Sets.{Words}
 use Rattle.board.proofs.Marking.{store-kept, store-marked}
-use Rattle.board.specs.Marks.{marked}
 use borrow.Author.Needs.{needs}
 use Rattle.board.proofs.record.Board.store.Statement.{statement}
 use Rattle.board.proofs.record.Board.store.Tie as tie

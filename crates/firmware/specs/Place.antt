@@ -1,0 +1,7 @@
+-- A step in place: its answer but for the record.
+use Rattle.steps.specs.declared.answers.Answer.{Answer}
+use Rattle.firmware.specs.declared.place.Told.{Told}
+
+-- an answer without its record
+unfoldable pub toldOf : Answer → Told
+toldOf a = record { byte = a .byte; int = a .int; nmi = a .nmi; forwarded = a .forwarded; refusal = a .refusal }
