@@ -2,7 +2,7 @@
 ghost use Prim.Native.Nat.{_<_};
 
 // The byte of a pattern at a place.
-pub(crate) fn pattern(at: usize, first: usize) -> u8 {
+fn pattern(at: usize, first: usize) -> u8 {
     ((at % 1048576 * 167 + at / 256 * 3 % 256 + first % 256) % 256) as u8
 }
 
@@ -15,7 +15,7 @@ pub(crate) fn fill(bytes: &mut [u8], from: usize, first: usize) {
     }
 }
 
-pub(crate) fn wide(x: u8) -> u64
+fn wide(x: u8) -> u64
     ensures { λ r. ⌜ r < 256 ⌝ }
 {
     x as u64
@@ -30,17 +30,4 @@ pub(crate) fn sum(bytes: &[u8]) -> u64 {
         i += 1;
     }
     s
-}
-
-// How many bytes from a place on differ from the pattern.
-pub(crate) fn changed(bytes: &[u8], from: usize, first: usize) -> u64 {
-    let mut n: u64 = 0;
-    let mut i = from;
-    while i < bytes.len() {
-        if bytes[i] != pattern(i, first) {
-            n = std::num::wrapping_add_u64(n, 1);
-        }
-        i += 1;
-    }
-    n
 }

@@ -1,26 +1,27 @@
-// A long list of steps and refreshes on a real RAM and picture, once at each rate. After every refresh the picture is
-// held against a full draw, and the count against the dirty lines before; each scene prints one line.
+// A long list of steps and refreshes on a real RAM and picture, read from standard input. After every refresh the picture
+// is held against a full draw, and the count against the dirty lines before; each scene prints one line. The list and
+// the file stdout were made from document 01.
+//
+// The list is groups of four bytes, op a b c. Ops 1 to 9 are a step of that kind, its number a + 256 * b and value c; 10 a
+// power-on at rate a; 11 a refresh; 12 a step of kind a, number b and value c on a RAM one byte short; 13 a refresh of
+// a picture one byte short; 20 the end of a scene; 21 a byte to print.
 mod bytes;
-mod lists;
-mod mixture;
-mod plan;
-mod refusals;
-mod same;
 mod tally;
 
-use crate::lists::Scene;
-use crate::plan::Plan;
-use crate::plan::number;
-use crate::plan::text;
+use crate::bytes::fill;
+use crate::bytes::sum;
 use crate::tally::Run;
-use paging::Paging;
-use paging::Sizes;
+use libc::STDIN_FILENO;
+use libc::STDOUT_FILENO;
+use replies::ask;
 
-// What was asked for, and then what must be 0: refresh counts that were wrong, pictures that differed, and bytes of
-// unshown lines or refused calls that changed something.
-fn report(n: u64, r: Run, picture: &[u8], ram: &[u8]) {
-    number(b"", r.board.rate as u64);
-    plan::print_name(n);
+fn number(label: &[u8], n: u64) {
+    io::write_all(STDOUT_FILENO, label);
+    io::print_decimal(STDOUT_FILENO, n);
+}
+
+// What was asked for, then what must be 0, then sums of the bytes.
+fn report(r: Run, picture: &[u8], ram: &[u8]) {
     number(b": steps ", r.steps);
     number(b", refused ", r.refused);
     number(b", refreshes ", r.refreshes);
@@ -28,92 +29,91 @@ fn report(n: u64, r: Run, picture: &[u8], ram: &[u8]) {
     number(b", wrong ", r.wrong);
     number(b", differed ", r.differed);
     number(b", spoilt ", r.spoilt);
-    number(b", picture ", bytes::sum(picture));
-    number(b", ram ", bytes::sum(ram));
-    text(b"\n");
+    number(b", picture ", sum(picture));
+    number(b", ram ", sum(ram));
+    io::write_all(STDOUT_FILENO, b"\n");
 }
 
-// One step of a scene, and a refresh if one is due.
-fn turn(
+// One group of the list.
+fn take(
     run: Run,
-    scene: Scene,
-    i: u64,
-    every: u64,
+    op: u8,
+    a: u8,
+    b: u8,
+    c: u8,
     ram: &mut [u8],
     picture: &mut [u8],
     full: &mut [u8],
 ) -> Run {
-    let drawn = run.draws();
-    let r = drawn.go(lists::step_of(scene, i, drawn.draw), ram);
-    if lists::due(i, every) {
-        return tally::refresh(r, ram, picture, full);
-    }
-    r
-}
-
-fn play(
-    run: Run,
-    scene: Scene,
-    count: u64,
-    every: u64,
-    ram: &mut [u8],
-    picture: &mut [u8],
-    full: &mut [u8],
-) -> Run {
-    let mut r = run;
-    let mut i: u64 = 0;
-    while i < count {
-        r = turn(r, scene, i, every, ram, picture, full);
-        i += 1;
-    }
-    r
-}
-
-// A scene's steps, and then refused calls while lines are dirty.
-fn enact(run: Run, p: Plan, ram: &mut [u8], picture: &mut [u8], full: &mut [u8]) -> Run {
-    let scene = p.scene;
-    let r = play(run, scene, p.count, p.every, ram, picture, full);
-    refusals::wrong_calls(r, p.wrong, ram, picture)
-}
-
-// A scene, a last refresh, and its line of print.
-fn act(n: u64, run: Run, ram: &mut [u8], picture: &mut [u8], full: &mut [u8]) -> Run {
-    let r = enact(run.cleared(), plan::plan_of(n), ram, picture, full);
-    let done = tally::refresh(r, ram, picture, full);
-    report(n, done, picture, ram);
-    done
-}
-
-fn acts(run: Run, ram: &mut [u8], picture: &mut [u8], full: &mut [u8]) {
-    let mut r = run;
-    let mut n: u64 = 0;
-    while n < 16 {
-        r = act(n, r, ram, picture, full);
-        n += 1;
+    match op {
+        10 => {
+            fill(ram, 0, 167);
+            fill(picture, 0, 59);
+            tally::start(a)
+        }
+        11 => tally::refresh(run, ram, picture, full),
+        12 => {
+            if ram.len() == 0 {
+                return run;
+            }
+            tally::short_step(run, ask(a as u32, b as u32, c as u32), &mut ram[1..])
+        }
+        13 => {
+            if picture.len() == 0 {
+                return run;
+            }
+            tally::short_refresh(run, ram, &mut picture[1..])
+        }
+        20 => {
+            report(run, picture, ram);
+            tally::counting(run.board)
+        }
+        21 => {
+            let one = [a];
+            io::write_all(STDOUT_FILENO, &one);
+            run
+        }
+        _ => tally::go(
+            run,
+            ask(op as u32, a as u32 + 256 * b as u32, c as u32),
+            ram,
+        ),
     }
 }
 
-// One list of calls from a power-on.
-fn whole(rate: u8, ram: &mut [u8], picture: &mut [u8], full: &mut [u8]) {
-    let sizes = Sizes {
-        internal: 8,
-        total: 8,
-    };
-    let paging = Paging {
-        maps: [0x80, 0x81, 0x82, 0x83],
-        lock: 0,
-    };
-    let on = board::power_on(sizes, rate, paging, 0x5b, 0);
-    let run = tally::start(on.board);
-    bytes::fill(ram, 0, 167);
-    bytes::fill(picture, 0, 59);
-    acts(run, ram, picture, full);
+// The next group of the list, if there is one.
+fn play(run: Run, ram: &mut [u8], picture: &mut [u8], full: &mut [u8]) -> Run {
+    let mut group = [0u8; 4];
+    if io::read_full(STDIN_FILENO, &mut group) < 4 {
+        let mut r = run;
+        r.going = false;
+        return r;
+    }
+    take(
+        run,
+        group[0],
+        group[1],
+        group[2],
+        group[3],
+        ram,
+        picture,
+        full,
+    )
+}
+
+// The loop counts its turns down, from a number that no run uses up, so that it is proved to end.
+fn play_all(ram: &mut [u8], picture: &mut [u8], full: &mut [u8]) {
+    let mut r = tally::start(50);
+    let mut turns = u64::MAX;
+    while turns > 0 && r.going {
+        r = play(r, ram, picture, full);
+        turns -= 1;
+    }
 }
 
 fn main() {
     let mut ram = [0u8; 131072];
     let mut picture = [0u8; 23040];
     let mut full = [0u8; 23040];
-    whole(50, &mut ram, &mut picture, &mut full);
-    whole(60, &mut ram, &mut picture, &mut full);
+    play_all(&mut ram, &mut picture, &mut full);
 }

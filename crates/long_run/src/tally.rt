@@ -1,23 +1,17 @@
-// The run: the record, the generator, and what was counted since the scene began.
-use crate::bytes::changed;
+// The run: the record, and what was counted since the scene began. Each call is made here, and its answer checked.
 use crate::bytes::fill;
-use crate::same::same_board;
+use crate::bytes::sum;
 use board::Board;
+use paging::Paging;
+use paging::Sizes;
 use picture::Place;
 use picture::Refreshed;
 use steps::Step;
 
-// Three numbers of 15 bits from the generator.
-pub(crate) struct Draw {
-    pub x: u64,
-    pub y: u64,
-    pub z: u64,
-}
-
+// `wrong`: refreshes that answered wrongly; `differed`: pictures unlike a full draw; `spoilt`: refused calls that changed
+// something. `going`: whether more of the list may follow.
 pub(crate) struct Run {
     pub board: Board,
-    pub seed: u64,
-    pub draw: Draw,
     pub steps: u64,
     pub refused: u64,
     pub refreshes: u64,
@@ -25,22 +19,16 @@ pub(crate) struct Run {
     pub wrong: u64,
     pub differed: u64,
     pub spoilt: u64,
+    pub going: bool,
 }
 
-pub(crate) fn more(n: u64, by: u64) -> u64 {
-    std::num::wrapping_add_u64(n, by)
+fn more(n: u64, by: bool) -> u64 {
+    std::num::wrapping_add_u64(n, by as u64)
 }
 
-// The generator's next number, below 2,147,483,648.
-fn after(seed: u64) -> u64 {
-    (seed % 2147483648 * 1103515245 + 12345) % 2147483648
-}
-
-pub(crate) fn start(board: Board) -> Run {
+pub(crate) fn counting(board: Board) -> Run {
     Run {
         board,
-        seed: 1985,
-        draw: Draw { x: 0, y: 0, z: 0 },
         steps: 0,
         refused: 0,
         refreshes: 0,
@@ -48,93 +36,98 @@ pub(crate) fn start(board: Board) -> Run {
         wrong: 0,
         differed: 0,
         spoilt: 0,
+        going: true,
     }
 }
 
-impl Run {
-    // The counts at 0, for a new scene.
-    pub(crate) fn cleared(self) -> Run {
-        let seed = self.seed;
-        let mut r = start(self.board);
-        r.seed = seed;
-        r
-    }
-
-    pub(crate) fn draws(self) -> Run {
-        let a = after(self.seed);
-        let b = after(a);
-        let c = after(b);
-        let draw = Draw {
-            x: a / 65536,
-            y: b / 65536,
-            z: c / 65536,
-        };
-        let mut r = self;
-        r.seed = c;
-        r.draw = draw;
-        r
-    }
-
-    // One step. A refused one must leave the record as it was.
-    pub(crate) fn go(self, s: Step, ram: &mut [u8]) -> Run {
-        let answer = steps::step(self.board, s, ram, b"\x3e\x40\xd3\xf7");
-        let mut r = self;
-        r.steps = more(self.steps, 1);
-        if answer.refusal != 0 {
-            r.refused = more(self.refused, 1);
-            let kept = same_board(self.board, answer.board);
-            r.spoilt = more(self.spoilt, !kept as u64);
-            return r;
-        }
-        let board = answer.board;
-        r.board = board;
-        r
-    }
-
-    // A refresh's answer: the count is that of the dirty lines before it, and none is left.
-    fn refreshed(self, answer: Refreshed) -> Run {
-        let before = self.board.dirty;
-        let left = answer.board.dirty;
-        let floating = self.board.driven == 0;
-        let right = (answer.refusal == 0)
-            & ((answer.count == before.count())
-                & ((left.count() == 0) & (answer.floating == floating)));
-        let board = answer.board;
-        let mut r = self;
-        r.board = board;
-        r.refreshes = more(self.refreshes, 1);
-        r.lines = more(self.lines, answer.count as u64);
-        r.wrong = more(self.wrong, !right as u64);
-        r
-    }
+// A board of 128 KB at power-on, its table at B600h.
+pub(crate) fn start(rate: u8) -> Run {
+    let sizes = Sizes {
+        internal: 8,
+        total: 8,
+    };
+    let paging = Paging {
+        maps: [0x80, 0x81, 0x82, 0x83],
+        lock: 0,
+    };
+    let on = board::power_on(sizes, rate, paging, 0x5b, 0);
+    counting(on.board)
 }
 
-// Whether a full draw gives the same picture. Its shown lines hold other bytes first, its unshown lines the pattern.
-fn is_whole(b: Board, unshown: usize, ram: &[u8], picture: &[u8], full: &mut [u8]) -> bool {
+// One step.
+pub(crate) fn go(run: Run, s: Step, ram: &mut [u8]) -> Run {
+    let answer = steps::step(run.board, s, ram, b"\x3e\x40\xd3\xf7");
+    let board = answer.board;
+    let mut r = run;
+    r.board = board;
+    r.steps = more(run.steps, true);
+    r.refused = more(run.refused, answer.refusal != 0);
+    r
+}
+
+// A refresh's answer: the count is that of the dirty lines before it, and none is left.
+fn refreshed(run: Run, answer: Refreshed, whole: bool) -> Run {
+    let before = run.board.dirty;
+    let left = answer.board.dirty;
+    let floating = run.board.driven == 0;
+    let right = (answer.refusal == 0)
+        & ((answer.count == before.count())
+            & ((left.count() == 0) & (answer.floating == floating)));
+    let board = answer.board;
+    let mut r = run;
+    r.board = board;
+    r.refreshes = more(run.refreshes, true);
+    r.lines = std::num::wrapping_add_u64(run.lines, answer.count as u64);
+    r.wrong = more(run.wrong, !right);
+    r.differed = more(run.differed, !whole);
+    r
+}
+
+// Whether a full draw gives the same picture. Its shown lines hold other bytes first, its unshown lines the pattern that
+// the picture started with.
+fn is_whole(b: Board, ram: &[u8], picture: &[u8], full: &mut [u8]) -> bool {
     fill(full, 0, 200);
-    fill(full, unshown, 59);
+    fill(full, lineset::shown_lines(b.rate) as usize * 90, 59);
     let drawn = picture::draw(b, ram, full);
-    if drawn.refusal != 0 {
-        return false;
-    }
     let d = picture::first_difference(picture, full);
-    if d.refusal != 0 {
-        return false;
-    }
     let place = d.place;
     match place {
-        Place::Same => true,
+        Place::Same => (drawn.refusal == 0) & (d.refusal == 0),
         Place::Pixel(_, _) => false,
     }
 }
 
-// A refresh, checked. The unshown lines of the picture keep their pattern.
+// A refresh.
 pub(crate) fn refresh(run: Run, ram: &[u8], picture: &mut [u8], full: &mut [u8]) -> Run {
     let answer = picture::refresh(run.board, ram, picture);
-    let mut r = run.refreshed(answer);
-    let unshown = lineset::shown_lines(run.board.rate) as usize * 90;
-    let whole = is_whole(answer.board, unshown, ram, picture, full);
-    r.differed = more(run.differed, !whole as u64);
-    r.spoilt = more(run.spoilt, changed(picture, unshown, 59));
+    let whole = is_whole(answer.board, ram, picture, full);
+    refreshed(run, answer, whole)
+}
+
+// A call that must be refused with 2, and must leave the dirty lines and the lent bytes as they were.
+fn refused(run: Run, number: u8, board: Board, same_bytes: bool) -> Run {
+    let before = run.board.dirty;
+    let left = board.dirty;
+    let kept = (number == 2) & (same_bytes & (left.count() == before.count()));
+    let mut r = run;
+    r.board = board;
+    r.refused = more(run.refused, true);
+    r.spoilt = more(run.spoilt, !kept);
     r
+}
+
+// A step that is lent a RAM of the wrong length.
+pub(crate) fn short_step(run: Run, s: Step, lent: &mut [u8]) -> Run {
+    let before = sum(lent);
+    let answer = steps::step(run.board, s, lent, b"");
+    let mut r = refused(run, answer.refusal, answer.board, sum(lent) == before);
+    r.steps = more(run.steps, true);
+    r
+}
+
+// A refresh that is lent a picture of the wrong length.
+pub(crate) fn short_refresh(run: Run, ram: &[u8], lent: &mut [u8]) -> Run {
+    let before = sum(lent);
+    let answer = picture::refresh(run.board, ram, lent);
+    refused(run, answer.refusal, answer.board, sum(lent) == before)
 }
