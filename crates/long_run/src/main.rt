@@ -5,6 +5,8 @@
 // The list is groups of four bytes, op a b c. Ops 1 to 9 are a step of that kind, its number a + 256 * b and value c; 10 a
 // power-on at rate a; 11 a refresh; 12 a step of kind a, number b and value c on a RAM one byte short; 13 a refresh of
 // a picture one byte short; 20 the end of a scene; 21 a byte to print.
+ghost use Prim.Native.Nat.{_≤_};
+
 mod bytes;
 mod tally;
 
@@ -14,6 +16,7 @@ use crate::tally::Run;
 use libc::STDIN_FILENO;
 use libc::STDOUT_FILENO;
 use replies::ask;
+use steps::Step;
 
 fn number(label: &[u8], n: u64) {
     io::write_all(STDOUT_FILENO, label);
@@ -34,6 +37,32 @@ fn report(r: Run, picture: &[u8], ram: &[u8]) {
     io::write_all(STDOUT_FILENO, b"\n");
 }
 
+// The step of a group.
+fn asked(kind: u8, low: u8, high: u8, value: u8) -> Step {
+    ask(kind as u32, low as u32 + 256 * high as u32, value as u32)
+}
+
+fn put(byte: u8) {
+    let one = [byte];
+    io::write_all(STDOUT_FILENO, &one);
+}
+
+// The second place of n, if there is one.
+fn second(n: usize) -> usize
+    ensures { λ r. ⌜ r ≤ n ⌝ }
+{
+    if n == 0 {
+        return 0;
+    }
+    1
+}
+
+fn power_on(rate: u8, ram: &mut [u8], picture: &mut [u8]) -> Run {
+    fill(ram, 0, 167);
+    fill(picture, 0, 59);
+    tally::start(rate)
+}
+
 // One group of the list.
 fn take(
     run: Run,
@@ -46,38 +75,25 @@ fn take(
     full: &mut [u8],
 ) -> Run {
     match op {
-        10 => {
-            fill(ram, 0, 167);
-            fill(picture, 0, 59);
-            tally::start(a)
-        }
+        10 => power_on(a, ram, picture),
         11 => tally::refresh(run, ram, picture, full),
         12 => {
-            if ram.len() == 0 {
-                return run;
-            }
-            tally::short_step(run, ask(a as u32, b as u32, c as u32), &mut ram[1..])
+            let from = second(ram.len());
+            tally::short_step(run, asked(a, b, 0, c), &mut ram[from..])
         }
         13 => {
-            if picture.len() == 0 {
-                return run;
-            }
-            tally::short_refresh(run, ram, &mut picture[1..])
+            let from = second(picture.len());
+            tally::short_refresh(run, ram, &mut picture[from..])
         }
         20 => {
             report(run, picture, ram);
             tally::counting(run.board)
         }
         21 => {
-            let one = [a];
-            io::write_all(STDOUT_FILENO, &one);
+            put(a);
             run
         }
-        _ => tally::go(
-            run,
-            ask(op as u32, a as u32 + 256 * b as u32, c as u32),
-            ram,
-        ),
+        _ => tally::go(run, asked(op, a, b, c), ram),
     }
 }
 

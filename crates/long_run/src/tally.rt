@@ -120,9 +120,7 @@ fn refused(run: Run, number: u8, board: Board, same_bytes: bool) -> Run {
 pub(crate) fn short_step(run: Run, s: Step, lent: &mut [u8]) -> Run {
     let before = sum(lent);
     let answer = steps::step(run.board, s, lent, b"");
-    let mut r = refused(run, answer.refusal, answer.board, sum(lent) == before);
-    r.steps = more(run.steps, true);
-    r
+    refused(run, answer.refusal, answer.board, sum(lent) == before)
 }
 
 // A refresh that is lent a picture of the wrong length.
