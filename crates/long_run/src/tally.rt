@@ -121,9 +121,10 @@ pub(crate) fn short_step(run: Run, s: Step, lent: &mut [u8]) -> Run {
     refused(run, answer.refusal, answer.board, sum(lent) == before)
 }
 
-// A refresh that is lent a picture of the wrong length.
+// A refresh that is lent a picture of the wrong length: it must count no line, and say that nothing floats.
 pub(crate) fn short_refresh(run: Run, ram: &[u8], lent: &mut [u8]) -> Run {
     let before = sum(lent);
     let answer = picture::refresh(run.board, ram, lent);
-    refused(run, answer.refusal, answer.board, sum(lent) == before)
+    let same = (sum(lent) == before) & ((answer.count == 0) & !answer.floating);
+    refused(run, answer.refusal, answer.board, same)
 }
