@@ -97,32 +97,37 @@ fn take(
     }
 }
 
+struct Group {
+    read: bool,
+    op: u8,
+    a: u8,
+    b: u8,
+    c: u8,
+}
+
 // The next group of the list, if there is one.
-fn play(run: Run, ram: &mut [u8], picture: &mut [u8], full: &mut [u8]) -> Run {
-    let mut group = [0u8; 4];
-    if io::read_full(STDIN_FILENO, &mut group) < 4 {
-        let mut r = run;
-        r.going = false;
-        return r;
+fn next_group() -> Group {
+    let mut g = [0u8; 4];
+    let got = io::read_full(STDIN_FILENO, &mut g);
+    Group {
+        read: got == 4,
+        op: g[0],
+        a: g[1],
+        b: g[2],
+        c: g[3],
     }
-    take(
-        run,
-        group[0],
-        group[1],
-        group[2],
-        group[3],
-        ram,
-        picture,
-        full,
-    )
 }
 
 // The loop counts its turns down, from a number that no run uses up, so that it is proved to end.
-fn play_all(ram: &mut [u8], picture: &mut [u8], full: &mut [u8]) {
+fn play(ram: &mut [u8], picture: &mut [u8], full: &mut [u8]) {
     let mut r = tally::start(50);
     let mut turns = u64::MAX;
-    while turns > 0 && r.going {
-        r = play(r, ram, picture, full);
+    while turns > 0 {
+        let g = next_group();
+        if !g.read {
+            return;
+        }
+        r = take(r, g.op, g.a, g.b, g.c, ram, picture, full);
         turns -= 1;
     }
 }
@@ -131,5 +136,5 @@ fn main() {
     let mut ram = [0u8; 131072];
     let mut picture = [0u8; 23040];
     let mut full = [0u8; 23040];
-    play_all(&mut ram, &mut picture, &mut full);
+    play(&mut ram, &mut picture, &mut full);
 }

@@ -9,7 +9,7 @@ use picture::Refreshed;
 use steps::Step;
 
 // `wrong`: refreshes that answered wrongly; `differed`: pictures unlike a full draw; `spoilt`: refused calls that changed
-// something. `going`: whether more of the list may follow.
+// something.
 pub(crate) struct Run {
     pub board: Board,
     pub steps: u64,
@@ -19,7 +19,6 @@ pub(crate) struct Run {
     pub wrong: u64,
     pub differed: u64,
     pub spoilt: u64,
-    pub going: bool,
 }
 
 fn more(n: u64, by: bool) -> u64 {
@@ -36,7 +35,6 @@ pub(crate) fn counting(board: Board) -> Run {
         wrong: 0,
         differed: 0,
         spoilt: 0,
-        going: true,
     }
 }
 
@@ -123,9 +121,10 @@ pub(crate) fn short_step(run: Run, s: Step, lent: &mut [u8]) -> Run {
     refused(run, answer.refusal, answer.board, sum(lent) == before)
 }
 
-// A refresh that is lent a picture of the wrong length.
+// A refresh that is lent a picture of the wrong length: it must count no line, and say that nothing floats.
 pub(crate) fn short_refresh(run: Run, ram: &[u8], lent: &mut [u8]) -> Run {
     let before = sum(lent);
     let answer = picture::refresh(run.board, ram, lent);
-    refused(run, answer.refusal, answer.board, sum(lent) == before)
+    let same = (sum(lent) == before) & ((answer.count == 0) & !answer.floating);
+    refused(run, answer.refusal, answer.board, same)
 }
