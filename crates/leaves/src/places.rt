@@ -1,9 +1,10 @@
 // Places in RAM, what stands there, and what they touch.
-use crate::show::hex;
-use crate::show::set;
-use crate::show::text;
+use crate::sets::counted;
 use paging::Paging;
 use paging::Sizes;
+use show::byte;
+use show::hex;
+use show::text;
 
 fn place(name: &[u8], at: usize) {
     hex(name, at as u64, 6);
@@ -59,14 +60,14 @@ fn bytes(ram: &[u8]) {
 }
 
 fn touches(ram: &[u8]) {
-    set(b"000000 ", scanline::touched(ram, 0, 0, 0));
-    set(b"000001 ", scanline::touched(ram, 0, 0, 1));
-    set(b"000002, from top line 2 ", scanline::touched(ram, 0, 2, 2));
-    set(b"000008 ", scanline::touched(ram, 0, 0, 8));
-    set(b"000401 ", scanline::touched(ram, 0, 0, 0x401));
-    set(b"0006c9 ", scanline::touched(ram, 0, 0, 0x6c9));
-    set(b"004000 ", scanline::touched(ram, 0, 0, 0x4000));
-    set(b"020000 ", scanline::touched(ram, 0, 0, 0x20000));
+    counted(b"000000 ", scanline::touched(ram, 0, 0, 0));
+    counted(b"000001 ", scanline::touched(ram, 0, 0, 1));
+    counted(b"000002, from top line 2 ", scanline::touched(ram, 0, 2, 2));
+    counted(b"000008 ", scanline::touched(ram, 0, 0, 8));
+    counted(b"000401 ", scanline::touched(ram, 0, 0, 0x401));
+    counted(b"0006c9 ", scanline::touched(ram, 0, 0, 0x6c9));
+    counted(b"004000 ", scanline::touched(ram, 0, 0, 0x4000));
+    counted(b"020000 ", scanline::touched(ram, 0, 0, 0x20000));
 }
 
 // A table at block 0: line 0 has the word 0201h, line 255 of the second table 9897h.
@@ -85,7 +86,7 @@ pub(crate) fn table() {
 fn print_bytes(s: &[u8]) {
     let n = s.len();
     for i in 0..n {
-        hex(b"", s[i] as u64, 2);
+        byte(b"", s[i]);
     }
     text(b"\n");
 }

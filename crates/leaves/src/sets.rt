@@ -1,10 +1,10 @@
 // Sets of lines.
-use crate::show::flag;
-use crate::show::medium;
-use crate::show::set;
-use crate::show::text;
 use lineset::Line;
 use lineset::LineSet;
+use show::flag;
+use show::medium;
+use show::set;
+use show::text;
 
 // Lines 0, 63, 64, 127, 200 and 255.
 fn some() -> LineSet {
@@ -18,17 +18,24 @@ fn some() -> LineSet {
     }
 }
 
+// A set and its count.
+pub(crate) fn counted(name: &[u8], s: LineSet) {
+    set(name, s);
+    medium(b" count ", s.count());
+    text(b"\n");
+}
+
 pub(crate) fn sets() {
     let s = some();
     let shown = LineSet::shown(60);
     let both = s.intersection(shown);
-    set(b"empty ", LineSet::empty());
-    set(b"shown at 50 ", LineSet::shown(50));
-    set(b"shown at 60 ", shown);
-    set(b"shown at 55 ", LineSet::shown(55));
-    set(b"some ", s);
-    set(b"some or shown at 60 ", s.union(shown));
-    set(b"some and shown at 60 ", both);
+    counted(b"empty ", LineSet::empty());
+    counted(b"shown at 50 ", LineSet::shown(50));
+    counted(b"shown at 60 ", shown);
+    counted(b"shown at 55 ", LineSet::shown(55));
+    counted(b"some ", s);
+    counted(b"some or shown at 60 ", s.union(shown));
+    counted(b"some and shown at 60 ", both);
     flag(b"some within shown at 60: ", s.within(shown));
     flag(b" at 50: ", s.within(LineSet::shown(50)));
     flag(b" the common ones at 60: ", both.within(shown));

@@ -4,14 +4,14 @@
 // Any other: text.
 use crate::record::field;
 use crate::record::power;
-use crate::show::answer;
-use crate::show::byte;
-use crate::show::flag;
-use crate::show::noted;
-use crate::show::record;
-use crate::show::small;
-use crate::show::text;
 use board::Board;
+use show::answer;
+use show::byte;
+use show::flag;
+use show::noted;
+use show::record;
+use show::small;
+use show::text;
 use steps::Answer;
 
 // The record, and the lengths of RAM and stream that steps are lent. The stream is the list's own first bytes.

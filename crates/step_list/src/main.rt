@@ -2,7 +2,6 @@
 // stdout were made from document 01.
 mod groups;
 mod record;
-mod show;
 
 ghost use mathlib.Core.Path.{_≡_};
 ghost use lib.ListN.{length};

@@ -1,10 +1,10 @@
 // Records to start from: power-on, and one field set to any number.
-use crate::show::small;
-use crate::show::text;
 use board::Board;
 use lineset::LineSet;
 use paging::Paging;
 use paging::Sizes;
+use show::small;
+use show::text;
 
 // Each bank on the block of its number, the table at block 1, place 0. Prints the refusal.
 pub(crate) fn power(internal: u8, total: u8, rate: u8) -> Board {

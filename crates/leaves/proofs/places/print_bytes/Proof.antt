@@ -15,17 +15,14 @@ abbrev μ-loop : tie.MeasureT-loop
 loop-holds : tie.Need-loop-holds Inv-loop μ-loop
 loop-holds c = search needs
 
-slice-aggregate-hex : tie.Need-slice-aggregate-hex Inv-loop μ-loop
-slice-aggregate-hex c = search needs
+slice-aggregate-byte : tie.Need-slice-aggregate-byte Inv-loop μ-loop
+slice-aggregate-byte c = search needs
 
-shared-slice-read-hex : tie.Need-shared-slice-read-hex Inv-loop μ-loop
-shared-slice-read-hex c = search needs
+shared-slice-read-byte : tie.Need-shared-slice-read-byte Inv-loop μ-loop
+shared-slice-read-byte c = search needs
 
-cast-hex : tie.Need-cast-hex Inv-loop μ-loop
-cast-hex c = search needs
-
-hex-requires : tie.Need-hex-requires Inv-loop μ-loop
-hex-requires c κs = search needs
+byte-requires : tie.Need-byte-requires Inv-loop μ-loop
+byte-requires c κs = search needs
 
 add-i : tie.Need-add-i Inv-loop μ-loop
 add-i c = search needs
@@ -52,10 +49,9 @@ print-bytes-spec =
     Inv-loop
     μ-loop
     loop-holds
-    slice-aggregate-hex
-    shared-slice-read-hex
-    cast-hex
-    hex-requires
+    slice-aggregate-byte
+    shared-slice-read-byte
+    byte-requires
     add-i
     loop-less
     loop-again

@@ -1,38 +1,47 @@
-// Prints answers and records: addresses, bytes and registers in hex, all else in decimal.
+// Prints texts, numbers, records and answers to standard output: addresses, bytes and registers in hex, all else in decimal.
 use board::Board;
+use lineset::LineSet;
 use steps::Answer;
 
-pub(crate) fn text(label: &[u8]) {
+pub fn text(label: &[u8]) {
     io::write_all(1, label);
 }
 
-pub(crate) fn small(name: &[u8], n: u8) {
+pub fn small(name: &[u8], n: u8) {
     text(name);
     io::print_decimal(1, n as u64);
 }
 
-fn medium(name: &[u8], n: u16) {
+pub fn medium(name: &[u8], n: u16) {
     text(name);
     io::print_decimal(1, n as u64);
 }
 
-pub(crate) fn flag(name: &[u8], on: bool) {
+pub fn flag(name: &[u8], on: bool) {
     text(name);
     io::print_decimal(1, on as u64);
 }
 
-pub(crate) fn byte(name: &[u8], n: u8) {
+pub fn byte(name: &[u8], n: u8) {
     text(name);
     io::print_hex(1, n as u64, 2);
 }
 
-fn long(name: &[u8], n: u64) {
+pub fn hex(name: &[u8], n: u64, width: usize) {
     text(name);
-    io::print_hex(1, n, 16);
+    io::print_hex(1, n, width);
+}
+
+// A set's four words, the lines from 0 up first.
+pub fn set(name: &[u8], s: LineSet) {
+    hex(name, s.words[0], 16);
+    hex(b" ", s.words[1], 16);
+    hex(b" ", s.words[2], 16);
+    hex(b" ", s.words[3], 16);
 }
 
 // All of a record but the noted lines.
-pub(crate) fn record(b: Board) {
+pub fn record(b: Board) {
     small(b"   ", b.sizes.internal);
     small(b" of ", b.sizes.total);
     small(b" rate ", b.rate);
@@ -58,18 +67,14 @@ pub(crate) fn record(b: Board) {
     small(b" bleeper ", b.bleeper);
 }
 
-// The noted lines, those from 0 up first.
-pub(crate) fn noted(b: Board) {
-    let s = b.dirty;
-    long(b"   noted ", s.words[0]);
-    long(b" ", s.words[1]);
-    long(b" ", s.words[2]);
-    long(b" ", s.words[3]);
+// The noted lines.
+pub fn noted(b: Board) {
+    set(b"   noted ", b.dirty);
     text(b"\n");
 }
 
 // A step's line after its numbers: the answer, with what of the record moves most. The record goes on.
-pub(crate) fn answer(a: Answer) -> Board {
+pub fn answer(a: Answer) -> Board {
     byte(b": ", a.byte);
     flag(b" int ", a.int);
     flag(b" nmi ", a.nmi);
