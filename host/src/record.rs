@@ -89,14 +89,7 @@ pub struct Board {
     pub dirty: Lines,
 }
 
-const _: () = {
-    use std::mem::{align_of, offset_of, size_of};
-    assert!(size_of::<Board>() == 64 && align_of::<Board>() == 8);
-    assert!(offset_of!(Board, rate) == 2 && offset_of!(Board, paging) == 3);
-    assert!(offset_of!(Board, video) == 8 && offset_of!(Board, clock) == 12);
-    assert!(offset_of!(Board, boot) == 16 && offset_of!(Board, disc) == 20);
-    assert!(offset_of!(Board, external) == 24 && offset_of!(Board, dirty) == 32);
-};
+const _: () = assert!(std::mem::size_of::<Board>() == 64 && std::mem::align_of::<Board>() == 8);
 
 impl Sizes {
     /// Internal memory is 8, 16 or 32 blocks; total is from internal to 128.
@@ -233,5 +226,29 @@ impl Board {
     /// Whether the INT line stands.
     pub fn int(&self) -> bool {
         self.clock.counter != 0 || self.external == 1 || (self.disc.line == 1 && self.disc.route == ROUTE_INT)
+    }
+}
+
+#[cfg(test)]
+mod tests {
+    use super::Board;
+
+    /// The fields stand where include/joyce.h has them.
+    #[test]
+    fn fields_stand_as_in_the_header() {
+        let b = Board::default();
+        let start = &b as *const Board as usize;
+        let places = [
+            &b.sizes as *const _ as usize,
+            &b.rate as *const _ as usize,
+            &b.paging as *const _ as usize,
+            &b.video as *const _ as usize,
+            &b.clock as *const _ as usize,
+            &b.boot as *const _ as usize,
+            &b.disc as *const _ as usize,
+            &b.external as *const _ as usize,
+            &b.dirty as *const _ as usize,
+        ];
+        assert_eq!(places.map(|place| place - start), [0, 2, 3, 8, 12, 16, 20, 24, 32]);
     }
 }

@@ -267,7 +267,10 @@ fn fields(b: &Board) -> [(&'static str, u64); 26] {
 
 /// Where in the RAM a step may store, by the model.
 fn stored_at(board: &Board, call: &Call) -> Option<usize> {
-    let Call::Step { step, .. } = call else { return None };
+    let step = match call {
+        Call::Step { step, .. } => step,
+        _ => return None,
+    };
     match step.kind {
         3 if board.good() && step.number <= 0xFFFF => {
             let (_, block) = model::blocks(board.sizes, &board.paging, step.number as usize >> 14);

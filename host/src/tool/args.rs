@@ -49,7 +49,10 @@ impl Args {
 
     /// A byte in hex, with or without 0x or a closing h.
     pub fn hex_byte(&self, flag: &str, default: u8) -> Result<u8, String> {
-        let Some(text) = self.text(flag) else { return Ok(default) };
+        let text = match self.text(flag) {
+            None => return Ok(default),
+            Some(text) => text,
+        };
         let plain = text.trim_start_matches("0x").trim_end_matches(['h', 'H']);
         // A sign would be taken by the parser but is no hex digit.
         let digits = !plain.is_empty() && plain.chars().all(|c| c.is_ascii_hexdigit());

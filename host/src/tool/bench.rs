@@ -2,11 +2,10 @@
 
 use super::args::Args;
 use super::out;
-use super::timing::{keep, nanoseconds};
+use super::timing::{black_box, keep, nanoseconds};
 use joyce::machine::{Machine, Model, Numbers};
 use joyce::model::{Ask, PowerOn};
 use joyce::record::{Board, Lines, Paging, Sizes, BLOCK, PICTURE};
-use std::hint::black_box;
 use std::time::Duration;
 
 type Outcome = Result<(), String>;

@@ -1,6 +1,6 @@
 //! Timing of short operations.
 
-use std::hint::black_box;
+use std::arch::asm;
 use std::time::{Duration, Instant};
 
 /// Nanoseconds of one call: the best of several rounds that together last about `budget`.
@@ -32,6 +32,13 @@ fn calls_in(time: Duration, call: &mut impl FnMut()) -> u64 {
         }
         calls *= 2;
     }
+}
+
+/// A value that the optimiser knows nothing of; the standard library's is newer than Debian's compiler.
+pub fn black_box<T>(value: T) -> T {
+    // SAFETY: it has no instruction, and only claims to look at the value.
+    unsafe { asm!("/* {0} */", in(reg) &value, options(nostack, preserves_flags)) };
+    value
 }
 
 /// Keeps the optimiser from seeing that a result is not used.
