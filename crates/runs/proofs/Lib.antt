@@ -5,6 +5,7 @@ pub mod Mirroring
 pub mod Model
 pub mod Painting
 pub mod Redrawing
+pub mod Sentences
 pub mod Standing
 pub mod Ticking
 pub mod Whole

@@ -73,8 +73,8 @@ pub fn noted(b: Board) {
     text(b"\n");
 }
 
-// A step's line after its numbers: the answer, with what of the record moves most. The record goes on.
-pub fn answer(a: Answer) -> Board {
+// A step's line after its numbers: the answer, with what of the record moves most.
+pub fn answer(a: Answer) {
     byte(b": ", a.byte);
     flag(b" int ", a.int);
     flag(b" nmi ", a.nmi);
@@ -89,5 +89,4 @@ pub fn answer(a: Answer) -> Board {
     let s = b.dirty;
     medium(b" noted ", s.count());
     text(b"\n");
-    b
 }

@@ -48,7 +48,8 @@ fn one(
     byte(b" ", b);
     byte(b"", a);
     byte(b" ", c);
-    answer(x)
+    answer(x);
+    x.board
 }
 
 fn many(b: Board, kind: u8, n: u32, ram: &mut [u8], boot: &[u8]) -> Board {

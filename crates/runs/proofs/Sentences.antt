@@ -1,0 +1,54 @@
+-- Sentences of document 01 that no one definition says, but several together.
+-- Assumes nothing.
+use Prim.Native.Nat.{ℕ, _%_}
+use native.Mathlib.Omega.{arith}
+use mathlib.Core.Path.{_≡_, refl, sym, _∙_}
+use mathlib.Core.Bool.{Bool, true, false, true≢false}
+use mathlib.Core.List.{List}
+use borrow.Author.Tests.{eqb-true}
+use lib.Dec.{eqb}
+use Rattle.board.specs.declared.record.Board.{Board}
+use Rattle.board.specs.Record.{good}
+use Rattle.board.specs.Power.{freshBoard}
+use Rattle.board.specs.Registers.{forwardedIn, command, pagingOut, videoOut, clockTold, bootTold, discTold, drivenTold, bleeperTold, written}
+use Rattle.steps.specs.declared.answers.Step.the-variants.{PortIn}
+use Rattle.steps.specs.Steps.{moved}
+use Rattle.steps.proofs.Channels.{board-channel, in-forwarded}
+use Rattle.picture.specs.Pictures.{pictureRefusal, drawPicture, shown}
+
+-- "Reset sets the same, but keeps sizes, rate, maps, lock, F5, F6, beam, both lines and notes."
+pub reset-as-power-on : (b : Board) (value : ℕ) → value % 16 ≡ 1
+    → written b 0xF8 value ≡ (let f = freshBoard (b .sizes) (b .rate) (b .paging) (b .video .table) (b .video .top) in
+    record {
+      sizes = f .sizes;
+      rate = f .rate;
+      paging = f .paging;
+      video = f .video;
+      clock = record { counter = f .clock .counter; beam = b .clock .beam };
+      boot = f .boot;
+      disc = record { route = f .disc .route; line = b .disc .line; «terminal_count» = f .disc .«terminal_count»; motor = f .disc .motor };
+      external = b .external;
+      driven = f .driven;
+      bleeper = f .bleeper;
+      dirty = b .dirty;
+    })
+unfolding written command pagingOut videoOut clockTold bootTold discTold drivenTold bleeperTold freshBoard
+reset-as-power-on b value e = rw e
+
+-- "Floating changes no pixel": of a good record, draw looks at sizes, rate and F5 to F7 alone
+pub drawn-from : (b c : Board) (ram picture : List ℕ) → good b ≡ good c → b .sizes ≡ c .sizes → b .rate ≡ c .rate → b .video ≡ c .video
+    → drawPicture b ram picture ≡ drawPicture c ram picture
+unfolding drawPicture pictureRefusal shown
+drawn-from b c ram picture g s r v = rw (g, s, r, v)
+
+-- "Passed on: accepted, nothing changed", of a channel in
+pub passed-on-in : (b : Board) (port : ℕ) → forwardedIn port ≡ true → moved b (PortIn port) ≡ b
+unfolding moved
+passed-on-in b port e = go (eqb port 0xF4) refl
+  where
+    not-f4 : port ≡ 0xF4 → ⊥
+    not-f4 z = true≢false (sym e ∙ in-forwarded port (λ (y : port ≡ 0x00). omega arith) ∙ board-channel port (omega arith) (omega arith))
+
+    go : (t : Bool) → eqb port 0xF4 ≡ t → moved b (PortIn port) ≡ b
+    go true f = absurd (not-f4 (eqb-true port 0xF4 f))
+    go false f = rw f
