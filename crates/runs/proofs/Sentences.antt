@@ -14,7 +14,7 @@ use Rattle.board.specs.Registers.{forwardedIn, command, pagingOut, videoOut, cl
 use Rattle.steps.specs.declared.answers.Step.the-variants.{PortIn}
 use Rattle.steps.specs.Steps.{moved}
 use Rattle.steps.proofs.Channels.{board-channel, in-forwarded}
-use Rattle.picture.specs.Pictures.{pictureRefusal, drawPicture, shown}
+use Rattle.picture.specs.Pictures.{pictureRefusal, drawPicture, refreshPicture, shown}
 
 -- "Reset sets the same, but keeps sizes, rate, maps, lock, F5, F6, beam, both lines and notes."
 pub reset-as-power-on : (b : Board) (value : ℕ) → value % 16 ≡ 1
@@ -40,6 +40,12 @@ pub drawn-from : (b c : Board) (ram picture : List ℕ) → good b ≡ good c �
     → drawPicture b ram picture ≡ drawPicture c ram picture
 unfolding drawPicture pictureRefusal shown
 drawn-from b c ram picture g s r v = rw (g, s, r, v)
+
+-- and refresh at its dirty lines too
+pub refreshed-from : (b c : Board) (ram picture : List ℕ) → good b ≡ good c → b .sizes ≡ c .sizes → b .video ≡ c .video → b .dirty ≡ c .dirty
+    → refreshPicture b ram picture ≡ refreshPicture c ram picture
+unfolding refreshPicture pictureRefusal
+refreshed-from b c ram picture g s v d = rw (g, s, v, d)
 
 -- "Passed on: accepted, nothing changed", of a channel in
 pub passed-on-in : (b : Board) (port : ℕ) → forwardedIn port ≡ true → moved b (PortIn port) ≡ b
