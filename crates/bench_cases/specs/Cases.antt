@@ -16,8 +16,8 @@ use Rattle.board.specs.declared.record.Clock.{Clock}
 use Rattle.board.specs.Power.{freshBoard}
 use Rattle.board.specs.Record.{frame, statusByte, withClock}
 use Rattle.board.specs.Registers.{nextBeam, ticks, scanned}
-use Rattle.steps.specs.declared.answers.Step.the-variants.{PortIn}
-use Rattle.steps.specs.Steps.{moved, stepByte}
+use Rattle.answers.specs.declared.Step.the-variants.{PortIn}
+use Rattle.answers.specs.Steps.{moved, stepByte}
 
 -- a case: its number, what the rules give, and what document 01 says
 pub record Case : Type 0 where

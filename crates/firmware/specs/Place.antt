@@ -1,5 +1,5 @@
 -- A step in place: its answer but for the record.
-use Rattle.steps.specs.declared.answers.Answer.{Answer}
+use Rattle.answers.specs.declared.Answer.{Answer}
 use Rattle.firmware.specs.declared.place.Told.{Told}
 
 -- an answer without its record

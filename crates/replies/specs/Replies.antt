@@ -18,9 +18,9 @@ use Rattle.picture.specs.declared.search.Place.{Place}
 use Rattle.picture.specs.declared.search.Place.the-variants.{Pixel, Same}
 use Rattle.picture.specs.declared.search.Difference.{Difference}
 use Rattle.board.specs.declared.power.Started.{Started}
-use Rattle.steps.specs.declared.answers.Answer.{Answer}
-use Rattle.steps.specs.declared.answers.Step.{Step}
-use Rattle.steps.specs.declared.answers.Step.the-variants.{Fetch, Read, Write, PortIn, PortOut, Scan, Key, DiscLine, ExternalLine}
+use Rattle.answers.specs.declared.Answer.{Answer}
+use Rattle.answers.specs.declared.Step.{Step}
+use Rattle.answers.specs.declared.Step.the-variants.{Fetch, Read, Write, PortIn, PortOut, Scan, Key, DiscLine, ExternalLine}
 
 -- sizes and paging from plain numbers
 abbrev pub sizesOf : ℕ → ℕ → Sizes

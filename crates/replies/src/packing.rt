@@ -2,7 +2,7 @@
 ghost use mathlib.Core.Path.{_≡_};
 ghost use Prim.Native.Nat.{min};
 ghost use Rattle.board.specs.Power.{started};
-ghost use Rattle.steps.specs.Steps.{stepAnswer, stepRam};
+ghost use Rattle.answers.specs.Steps.{stepAnswer, stepRam};
 ghost use Rattle.replies.specs.Replies.{stepReply, startReply, asked, sizesOf, pagingOf};
 ghost use Rattle.replies.specs.Replies.{drawReply, refreshReply, nextReply, differenceReply};
 ghost use Rattle.picture.specs.Pictures.{drawAnswer, drawPicture, refreshAnswer, refreshPicture, nextAnswer, differenceAnswer};

@@ -18,9 +18,9 @@ use Rattle.board.specs.Power.{freshBoard, startRefusal, started}
 use Rattle.board.specs.Record.{good, goodTime, goodDisc, goodFlags, goodRate, shownSet, frame}
 use Rattle.board.specs.Marks.{marked}
 use Rattle.board.proofs.Good.{Parts, good-parts, parts-good, both}
-use Rattle.steps.specs.declared.answers.Step.{Step}
-use Rattle.steps.specs.Steps.{moved, stored, settled, lentRefusal, ownRefusal, stepRefusal, stepBoard, stepAnswer}
-use Rattle.steps.proofs.Answering.{lent-boot, plain}
+use Rattle.answers.specs.declared.Step.{Step}
+use Rattle.answers.specs.Steps.{moved, stored, settled, lentRefusal, ownRefusal, stepRefusal, stepBoard, stepAnswer}
+use Rattle.answers.proofs.Answering.{lent-boot, plain}
 use Rattle.runs.proofs.Model.{accepted-board, refused-board}
 use Rattle.runs.proofs.Keeping.{time-of, of-time, moved-time, ranges-of, moved-ranges, settled-disc, flags-of, of-flags, moved-flags, moved-sizes, moved-rate, moved-dirty, marks-shown, inside-all}
 

@@ -20,9 +20,9 @@ use Rattle.board.specs.Record.{goodTime, goodDisc, goodFlags, shownSet, frame, 
 use Rattle.board.specs.Registers.{command, nextBeam, ticks, scanned, written, clockTold, bootTold, discTold, drivenTold, bleeperTold}
 use Rattle.board.specs.Marks.{marked}
 use Rattle.board.proofs.Good.{both}
-use Rattle.steps.specs.declared.answers.Step.{Step}
-use Rattle.steps.specs.declared.answers.Step.the-variants.{Fetch, Read, Write, PortIn, PortOut, Scan, Key, DiscLine, ExternalLine}
-use Rattle.steps.specs.Steps.{moved, settled, ownRefusal}
+use Rattle.answers.specs.declared.Step.{Step}
+use Rattle.answers.specs.declared.Step.the-variants.{Fetch, Read, Write, PortIn, PortOut, Scan, Key, DiscLine, ExternalLine}
+use Rattle.answers.specs.Steps.{moved, settled, ownRefusal}
 
 -- a choice between two numbers in range
 cond-le : (t : Bool) {m n k : ℕ} → m ≤ k → n ≤ k → cond t m n ≤ k

@@ -17,9 +17,9 @@ use Rattle.board.specs.declared.record.Board.{Board}
 use Rattle.board.specs.Record.{good, viewOf}
 use Rattle.board.specs.Registers.{takenIn, takenOut, written}
 use Rattle.board.specs.Marks.{marked}
-use Rattle.steps.specs.declared.answers.Step.{Step}
-use Rattle.steps.specs.declared.answers.Step.the-variants.{Fetch, Read, Write, PortIn, PortOut, Scan, Key, DiscLine, ExternalLine}
-use Rattle.steps.specs.Steps.{moved, stored, settled, lentRefusal, ownRefusal, stepRefusal, stepBoard, stepAnswer, stepRam}
+use Rattle.answers.specs.declared.Step.{Step}
+use Rattle.answers.specs.declared.Step.the-variants.{Fetch, Read, Write, PortIn, PortOut, Scan, Key, DiscLine, ExternalLine}
+use Rattle.answers.specs.Steps.{moved, stored, settled, lentRefusal, ownRefusal, stepRefusal, stepBoard, stepAnswer, stepRam}
 use Rattle.runs.specs.Reference.{Reference, kindRefused, stepRefused, pagingFed, videoFed, ramFed, advanced, stepFed}
 use Rattle.runs.specs.Events.{atEnd}
 use Rattle.runs.proofs.Model.{accepted-board, accepted-ram, refused-board, refused-ram}

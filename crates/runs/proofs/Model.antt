@@ -7,8 +7,8 @@ use mathlib.Core.List.{List}
 use borrow.Author.Tests.{eqb-true, ne-eqb}
 use lib.Dec.{eqb}
 use Rattle.board.specs.declared.record.Board.{Board}
-use Rattle.steps.specs.declared.answers.Step.{Step}
-use Rattle.steps.specs.Steps.{stored, settled, stepRefusal, stepBoard, acceptedAnswer, refusedAnswer, stepAnswer, stepRam, stepByte, forwardedStep}
+use Rattle.answers.specs.declared.Step.{Step}
+use Rattle.answers.specs.Steps.{stored, settled, stepRefusal, stepBoard, acceptedAnswer, refusedAnswer, stepAnswer, stepRam, stepByte, forwardedStep}
 
 module _ (b : Board) (ram boot : List ℕ) (s : Step) where
   -- an accepted step, and a refused one, which changes nothing

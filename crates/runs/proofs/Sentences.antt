@@ -11,9 +11,9 @@ use Rattle.board.specs.declared.record.Board.{Board}
 use Rattle.board.specs.Record.{good}
 use Rattle.board.specs.Power.{freshBoard}
 use Rattle.board.specs.Registers.{forwardedIn, command, pagingOut, videoOut, clockTold, bootTold, discTold, drivenTold, bleeperTold, written}
-use Rattle.steps.specs.declared.answers.Step.the-variants.{PortIn}
-use Rattle.steps.specs.Steps.{moved}
-use Rattle.steps.proofs.Channels.{board-channel, in-forwarded}
+use Rattle.answers.specs.declared.Step.the-variants.{PortIn}
+use Rattle.answers.specs.Steps.{moved}
+use Rattle.ports.proofs.Ports.{board-channel, in-forwarded}
 use Rattle.picture.specs.Pictures.{pictureRefusal, drawPicture, refreshPicture, shown}
 
 -- "Reset sets the same, but keeps sizes, rate, maps, lock, F5, F6, beam, both lines and notes."

@@ -16,8 +16,8 @@ use Rattle.scanline.proofs.Changes.{unchanged-drawn}
 use Rattle.board.specs.declared.record.Board.{Board}
 use Rattle.board.specs.Record.{good, viewOf}
 use Rattle.board.specs.Marks.{marked}
-use Rattle.steps.specs.declared.answers.Step.{Step}
-use Rattle.steps.specs.Steps.{moved, stored, settled, stepRefusal, stepBoard, stepAnswer, stepRam}
+use Rattle.answers.specs.declared.Step.{Step}
+use Rattle.answers.specs.Steps.{moved, stored, settled, stepRefusal, stepBoard, stepAnswer, stepRam}
 use Rattle.runs.specs.Events.{Machine, stepped, Agrees, StepReturns}
 use Rattle.runs.proofs.Model.{accepted-board, accepted-ram, refused-board, refused-ram, answer-refusal}
 use Rattle.runs.proofs.Accepted.{step-good, step-words, step-rate}

@@ -14,9 +14,9 @@ use Rattle.board.specs.Record.{good}
 use Rattle.board.specs.Registers.{command, nextBeam, ticks, scanned, written, clockTold}
 use Rattle.board.specs.Marks.{marked}
 use Rattle.board.proofs.Good.{good-counter}
-use Rattle.steps.specs.declared.answers.Step.{Step}
-use Rattle.steps.specs.declared.answers.Step.the-variants.{Fetch, Read, Write, PortIn, PortOut, Scan, Key, DiscLine, ExternalLine}
-use Rattle.steps.specs.Steps.{moved, settled, stepRefusal, stepBoard, stepAnswer, stepRam}
+use Rattle.answers.specs.declared.Step.{Step}
+use Rattle.answers.specs.declared.Step.the-variants.{Fetch, Read, Write, PortIn, PortOut, Scan, Key, DiscLine, ExternalLine}
+use Rattle.answers.specs.Steps.{moved, settled, stepRefusal, stepBoard, stepAnswer, stepRam}
 use Rattle.runs.specs.Ticks.{Call, landed, handed, found, thrown, total, last, TickAccount}
 use Rattle.runs.proofs.Model.{accepted-board, refused-board}
 use Rattle.runs.proofs.Accepted.{step-good, start-board, start-good}

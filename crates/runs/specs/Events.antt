@@ -11,9 +11,9 @@ use Rattle.paging.specs.declared.Paging.{Paging}
 use Rattle.scanline.specs.Drawing.{drawn}
 use Rattle.board.specs.declared.record.Board.{Board}
 use Rattle.board.specs.Power.{startRefusal, started}
-use Rattle.steps.specs.declared.answers.Step.{Step}
-use Rattle.steps.specs.declared.answers.Step.the-variants.{Fetch, Read, Write, PortIn, PortOut, Scan, Key, DiscLine, ExternalLine}
-use Rattle.steps.specs.Steps.{stepAnswer, stepRam}
+use Rattle.answers.specs.declared.Step.{Step}
+use Rattle.answers.specs.declared.Step.the-variants.{Fetch, Read, Write, PortIn, PortOut, Scan, Key, DiscLine, ExternalLine}
+use Rattle.answers.specs.Steps.{stepAnswer, stepRam}
 use Rattle.picture.specs.Pictures.{painted, drawPicture, refreshAnswer, refreshPicture}
 use Rattle.runs.specs.Reference.{Reference, viewIn, begun, stepRefused, stepFed, refreshRefused, refreshFed}
 

@@ -12,8 +12,8 @@ use Rattle.paging.specs.Memory.{writePlace, keyboardPlace}
 use Rattle.scanline.specs.Drawing.{View, changed}
 use Rattle.board.specs.declared.record.Video.{Video}
 use Rattle.board.specs.Registers.{takenIn, takenOut, pagingOut, videoOut}
-use Rattle.steps.specs.declared.answers.Step.{Step}
-use Rattle.steps.specs.declared.answers.Step.the-variants.{Fetch, Read, Write, PortIn, PortOut, Scan, Key, DiscLine, ExternalLine}
+use Rattle.answers.specs.declared.Step.{Step}
+use Rattle.answers.specs.declared.Step.the-variants.{Fetch, Read, Write, PortIn, PortOut, Scan, Key, DiscLine, ExternalLine}
 
 -- "It keeps sizes, rate, bytes F0 to F7, a RAM of its own and a mark for each shown line."
 pub record Reference : Type 0 where

@@ -11,9 +11,9 @@ use Rattle.paging.specs.declared.Paging.{Paging}
 use Rattle.board.specs.declared.record.Board.{Board}
 use Rattle.board.specs.Power.{started, startRefusal}
 use Rattle.board.specs.Registers.{command, nextBeam, ticks}
-use Rattle.steps.specs.declared.answers.Step.{Step}
-use Rattle.steps.specs.declared.answers.Step.the-variants.{Fetch, Read, Write, PortIn, PortOut, Scan, Key, DiscLine, ExternalLine}
-use Rattle.steps.specs.Steps.{stepRefusal, stepAnswer, stepRam}
+use Rattle.answers.specs.declared.Step.{Step}
+use Rattle.answers.specs.declared.Step.the-variants.{Fetch, Read, Write, PortIn, PortOut, Scan, Key, DiscLine, ExternalLine}
+use Rattle.answers.specs.Steps.{stepRefusal, stepAnswer, stepRam}
 
 -- a step and the boot stream lent to it
 pub record Call : Type 0 where

@@ -47,7 +47,7 @@ use denote.Triple.Walked.{says, needs, Stays, stay-ref, stay-none, stay-none-ref
 use denote.Exit.{yes}
 use Rattle.board.specs.declared.record.Board.{Board}
 use Rattle.replies.specs.declared.packing.Returned.{Returned}
-use Rattle.steps.specs.Steps.{stepAnswer, stepRam}
+use Rattle.answers.specs.Steps.{stepAnswer, stepRam}
 use Rattle.replies.specs.Replies.{stepReply, asked}
 use Rattle.board.proofs.record.Board as T
 use Rattle.board.proofs.record.Board.Laws as T′

@@ -47,13 +47,13 @@ use denote.Triple.Walked.{says, needs, Stays, stay-ref, stay-none, stay-none-ref
 use denote.Exit.{yes}
 use Rattle.board.specs.declared.record.Board.{Board}
 use Rattle.firmware.specs.declared.place.Moved.{Moved}
-use Rattle.steps.specs.Steps.{stepAnswer, stepRam}
+use Rattle.answers.specs.Steps.{stepAnswer, stepRam}
 use Rattle.firmware.specs.Place.{toldOf}
 use Rattle.board.proofs.record.Board as T
 use Rattle.board.proofs.record.Board.Laws as T′
-use Rattle.steps.specs.declared.answers.Step.{Step}
-use Rattle.steps.proofs.answers.Step as D-Step
-use Rattle.steps.proofs.answers.Step.Laws as D-Step′
+use Rattle.answers.specs.declared.Step.{Step}
+use Rattle.answers.proofs.Step as D-Step
+use Rattle.answers.proofs.Step.Laws as D-Step′
 use Rattle.firmware.specs.declared.place.Told.{Told}
 use Rattle.firmware.proofs.place.Told as D-Told
 use Rattle.firmware.proofs.place.Told.Laws as D-Told′

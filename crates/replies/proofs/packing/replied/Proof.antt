@@ -6,8 +6,8 @@ use Prim.Native.Nat.{_≤_}
 use native.Mathlib.Omega.{arith}
 use mathlib.Core.Bool.{Bool, true, false}
 use mir.Val.{boolByte}
-use Rattle.steps.specs.declared.answers.Step.{Step}
-use Rattle.steps.specs.Steps.{stepAnswer, stepRam}
+use Rattle.answers.specs.declared.Step.{Step}
+use Rattle.answers.specs.Steps.{stepAnswer, stepRam}
 use Rattle.replies.specs.Replies.{stepReply, asked}
 use borrow.Author.Needs.{needs}
 use Rattle.replies.proofs.packing.replied.Statement.{statement}

@@ -1,0 +1,92 @@
+// What a step is given and what it answers; the interrupt lines, and the two forms of an answer.
+ghost use mathlib.Core.Path.{_≡_};
+ghost use Rattle.board.specs.Record.{intOf, nmiOf};
+ghost use Rattle.answers.specs.Steps.{acceptedAnswer, refusedAnswer, lentRefusal};
+use board::Board;
+
+// A step's kind with its plain arguments: addresses, channels (ports), offsets and values.
+pub enum Step {
+    Fetch(u16),
+    Read(u16),
+    Write(u16, u8),
+    PortIn(u8),
+    PortOut(u8, u8),
+    Scan,
+    Key(u8, u8),
+    DiscLine(bool),
+    ExternalLine(bool),
+}
+
+// The new record, a byte (0 where there is none), the INT and NMI lines, whether the access is passed on to the host
+// (forwarded), and the refusal number or 0.
+pub struct Answer {
+    pub board: Board,
+    pub byte: u8,
+    pub int: bool,
+    pub nmi: bool,
+    pub forwarded: bool,
+    pub refusal: u8,
+}
+
+fn int_line(b: Board) -> bool
+    ensures { λ r. ⌜ r ≡ intOf b ⌝ }
+{
+    !(b.clock.counter == 0) | ((b.external == 1) | ((b.disc.line == 1) & (b.disc.route == 2)))
+}
+
+fn nmi_line(b: Board) -> bool
+    ensures { λ r. ⌜ r ≡ nmiOf b ⌝ }
+{
+    (b.disc.route == 1) & (b.disc.line == 1)
+}
+
+// An accepted step's answer: an NMI is shown once, and then the route is none.
+pub fn accepted(b: Board, byte: u8, forwarded: bool) -> Answer
+    ensures { λ r. ⌜ r ≡ acceptedAnswer b byte forwarded ⌝ }
+{
+    let int = int_line(b);
+    let nmi = nmi_line(b);
+    let mut board = b;
+    if nmi {
+        board.disc.route = 0;
+    }
+    Answer {
+        board,
+        byte,
+        int,
+        nmi,
+        forwarded,
+        refusal: 0,
+    }
+}
+
+// A refused step's answer: the record given, and its lines, which are off where it is not good.
+pub fn refused(b: Board, number: u8) -> Answer
+    ensures { λ r. ⌜ r ≡ refusedAnswer b number ⌝ }
+{
+    let int = int_line(b);
+    let nmi = nmi_line(b);
+    let known = !(number == 1);
+    Answer {
+        board: b,
+        byte: 0,
+        int: known & int,
+        nmi: known & nmi,
+        forwarded: false,
+        refusal: number,
+    }
+}
+
+// 1 for a record that is not good, 2 for a RAM or boot stream of the wrong length, 0 otherwise.
+pub fn lent(b: Board, ram: usize, boot: usize) -> u8
+    ensures { λ r. ⌜ r ≡ lentRefusal b ram boot ⌝ }
+{
+    if !b.good() {
+        return 1;
+    }
+    if (ram == b.sizes.total as usize * 16384) & (boot <= 1024) {
+        0
+    } else {
+        2
+    }
+}

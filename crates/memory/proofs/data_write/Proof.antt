@@ -1,0 +1,158 @@
+-- By record and buffers, the place and the byte that is there: the lines that the store touches are marked, and the byte is stored.
+-- Assumes nothing.
+use mathlib.Core.Path.{_≡_, refl, sym, _∙_, ap}
+use denote.Ref.{now}
+use Prim.Native.Nat.{ℕ}
+use mathlib.Core.Bool.{false}
+use lib.ListN.{getD, length, set}
+use lib.Seq.{set-getD}
+use mir.Val.{Fits}
+use mir.Syntax.{w8, w64}
+use Rattle.lineset.proofs.Sets.{Words}
+use Rattle.board.specs.declared.record.Board.{Board}
+use Rattle.board.specs.Marks.{marked}
+use Rattle.board.proofs.Marking.{store-kept}
+use Rattle.answers.specs.declared.Step.the-variants.{Write}
+use Rattle.answers.specs.Steps.{moved, stored, stepByte, forwardedStep, lentRefusal, ownRefusal, stepBoard, acceptedAnswer}
+use Rattle.answers.proofs.Answering.{own-accepted, own-stored, step-own, step-own-ram, step-refused, step-kept}
+use Rattle.memory.proofs.Past.{store-past}
+use borrow.Author.Needs.{needs}
+use Rattle.memory.proofs.data_write.Statement.{statement}
+use Rattle.memory.proofs.data_write.Tie as tie
+
+fits : (s : tie.Start) (j : ℕ) → Fits w64 (getD (s .args .b .dirty .words) j 0)
+fits s j = search needs
+
+words : (s : tie.Start) → Words (s .args .b .dirty)
+words s = record { four = search needs; small = λ j. fits s j .fits }
+
+table : (s : tie.Start) → Fits w8 (s .args .b .video .table)
+table s = search needs
+
+-- record and buffers are found good
+none : (e : tie.Else1) → lentRefusal (e .before .before .before .before .args .b) (length (now (e .before .before .before .before .args .ram))) (length (now (e .before .before .before .before .args .boot))) ≡ 0
+none e = sym (e .before .lent .ensures) ∙ e .if1 .left
+
+-- a store of the byte that is there leaves the RAM
+same : (s : tie.Start) (k p : ℕ) → getD (now (s .args .ram)) k 0 ≡ s .args .value → k ≡ p → set (now (s .args .ram)) p (s .args .value) ≡ now (s .args .ram)
+same s k p e w = ap (λ (j : ℕ). set (now (s .args .ram)) j (s .args .value)) (sym w) ∙ ap (λ (x : ℕ). set (now (s .args .ram)) k x) (sym e) ∙ set-getD (now (s .args .ram)) k 0
+
+lent-requires : tie.Need-lent-requires
+lent-requires c κs = search needs
+
+refused-requires : tie.Need-refused-requires
+refused-requires c κs = search needs
+
+returns : tie.Need-returns
+returns c =
+    let s = c .before .before .before .before .before in (
+      c .refused .ensures ∙ step-refused (s .args .b) (now (s .args .ram)) (now (s .args .boot)) (Write (s .args .address) (s .args .value)) (c .before .before .lent .result) (sym (c .before .before .lent .ensures)) (c .before .if1 .taken),
+      step-kept (s .args .b) (now (s .args .ram)) (now (s .args .boot)) (Write (s .args .address) (s .args .value)) (c .before .before .lent .result) (sym (c .before .before .lent .ensures)) (c .before .if1 .taken),
+    )
+
+write-place-requires : tie.Need-write-place-requires
+write-place-requires c κs = search needs
+
+put-requires : tie.Need-put-requires
+put-requires c κs = search needs
+
+accepted-requires : tie.Need-accepted-requires
+accepted-requires c κs = search needs
+
+same-length : tie.Need-same-length
+same-length c = search needs
+
+returns-2 : tie.Need-returns-2
+unfolding moved stored stepByte forwardedStep ownRefusal stepBoard
+returns-2 c =
+    let e = c .before .before .before .before .before .before .before .before in
+    let s = e .before .before .before .before in
+    let w = c .before .before .before .before .before .before .write-place .ensures in
+    let st : stepBoard (s .args .b) (now (s .args .ram)) (Write (s .args .address) (s .args .value)) ≡ s .args .b =
+    ap (λ (k : ℕ). marked (s .args .b) (now (s .args .ram)) (s .args .b) (set (now (s .args .ram)) k (s .args .value))) (sym w) ∙ store-past (now (s .args .ram)) (s .args .b) _ (s .args .value) (words s) (table s .fits) (λ i. e .before .before .before .slice-known .given i .fits) (c .before .before .before .before .before .if2 .taken) in (
+      c .accepted .ensures
+          ∙ ap (λ (x : Board). acceptedAnswer x 0 false) (sym st)
+          ∙ own-accepted (s .args .b) (now (s .args .ram)) (now (s .args .boot)) (Write (s .args .address) (s .args .value)) refl
+          ∙ step-own (s .args .b) (now (s .args .ram)) (now (s .args .boot)) (Write (s .args .address) (s .args .value)) (none e),
+      c .before .before .before .put .ensures ∙ ap (λ (k : ℕ). set (now (s .args .ram)) k (s .args .value)) w
+          ∙ own-stored (s .args .b) (now (s .args .ram)) (now (s .args .boot)) (Write (s .args .address) (s .args .value)) refl
+          ∙ step-own-ram (s .args .b) (now (s .args .ram)) (now (s .args .boot)) (Write (s .args .address) (s .args .value)) (none e),
+    )
+
+byte-at-requires : tie.Need-byte-at-requires
+byte-at-requires c κs = search needs
+
+accepted-requires-2 : tie.Need-accepted-requires-2
+accepted-requires-2 c κs = search needs
+
+same-length-2 : tie.Need-same-length-2
+same-length-2 c = search needs
+
+returns-3 : tie.Need-returns-3
+unfolding moved stored stepByte forwardedStep ownRefusal stepBoard
+returns-3 c =
+    let e = c .before .before .before .before .before .before .before in
+    let s = e .before .before .before .before in
+    let w = c .before .before .before .before .before .write-place .ensures in
+    let k = same s _ _ (sym (c .before .before .byte-at .ensures) ∙ c .before .if3 .taken) w in
+    let st : stepBoard (s .args .b) (now (s .args .ram)) (Write (s .args .address) (s .args .value)) ≡ s .args .b =
+    store-kept (now (s .args .ram)) (s .args .b) _ (s .args .value) (words s) k in (
+      c .accepted2 .ensures
+          ∙ ap (λ (x : Board). acceptedAnswer x 0 false) (sym st)
+          ∙ own-accepted (s .args .b) (now (s .args .ram)) (now (s .args .boot)) (Write (s .args .address) (s .args .value)) refl
+          ∙ step-own (s .args .b) (now (s .args .ram)) (now (s .args .boot)) (Write (s .args .address) (s .args .value)) (none e),
+      sym k
+          ∙ own-stored (s .args .b) (now (s .args .ram)) (now (s .args .boot)) (Write (s .args .address) (s .args .value)) refl
+          ∙ step-own-ram (s .args .b) (now (s .args .ram)) (now (s .args .boot)) (Write (s .args .address) (s .args .value)) (none e),
+    )
+
+store-requires : tie.Need-store-requires
+store-requires c κs = search needs
+
+put-requires-2 : tie.Need-put-requires-2
+put-requires-2 c κs = search needs
+
+accepted-requires-3 : tie.Need-accepted-requires-3
+accepted-requires-3 c κs = search needs
+
+same-length-3 : tie.Need-same-length-3
+same-length-3 c = search needs
+
+returns-4 : tie.Need-returns-4
+unfolding moved stored stepByte forwardedStep ownRefusal stepBoard
+returns-4 c =
+    let e = c .before .before .before .before .before .before .before .before .before .before .before .before .before in
+    let s = e .before .before .before .before in
+    let w = c .before .before .before .before .before .before .before .before .before .before .before .write-place .ensures in
+    let st : stepBoard (s .args .b) (now (s .args .ram)) (Write (s .args .address) (s .args .value)) ≡ c .before .before .before .before .before .store .result =
+    ap (λ (k : ℕ). marked (s .args .b) (now (s .args .ram)) (s .args .b) (set (now (s .args .ram)) k (s .args .value))) (sym w) ∙ sym (c .before .before .before .before .before .store .ensures) in (
+      c .accepted3 .ensures
+          ∙ ap (λ (x : Board). acceptedAnswer x 0 false) (sym st)
+          ∙ own-accepted (s .args .b) (now (s .args .ram)) (now (s .args .boot)) (Write (s .args .address) (s .args .value)) refl
+          ∙ step-own (s .args .b) (now (s .args .ram)) (now (s .args .boot)) (Write (s .args .address) (s .args .value)) (none e),
+      c .before .before .before .put2 .ensures ∙ ap (λ (k : ℕ). set (now (s .args .ram)) k (s .args .value)) w
+          ∙ own-stored (s .args .b) (now (s .args .ram)) (now (s .args .boot)) (Write (s .args .address) (s .args .value)) refl
+          ∙ step-own-ram (s .args .b) (now (s .args .ram)) (now (s .args .boot)) (Write (s .args .address) (s .args .value)) (none e),
+    )
+
+pub data-write-spec : {M : Type 1} → statement M
+data-write-spec =
+    tie.close
+    (tie.spec
+    lent-requires
+    refused-requires
+    returns
+    write-place-requires
+    put-requires
+    accepted-requires
+    same-length
+    returns-2
+    byte-at-requires
+    accepted-requires-2
+    same-length-2
+    returns-3
+    store-requires
+    put-requires-2
+    accepted-requires-3
+    same-length-3
+    returns-4)

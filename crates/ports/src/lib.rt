@@ -1,0 +1,78 @@
+// Channels (ports) in and out. Each checks record and buffers, then answers.
+ghost use mathlib.Core.Path.{_≡_};
+ghost use Prim.Native.Nat.{_≤_};
+ghost use Rattle.board.specs.Record.{statusByte};
+ghost use Rattle.board.specs.Registers.{forwardedOut};
+ghost use Rattle.answers.specs.Steps.{stepAnswer};
+use answers::Answer;
+use answers::Step;
+use answers::accepted;
+use answers::lent;
+use answers::refused;
+use board::Board;
+
+// F8 as read: 64 in the flyback, 32 with the disc line on, 16 on 50 Hz, and the counter.
+fn status(b: Board) -> u8
+    requires { ⌜ b .clock .counter ≤ 15 ⌝ }
+    ensures { λ r. ⌜ r ≡ statusByte b ⌝ }
+{
+    let flyback = (b.clock.beam < 26) as u8;
+    let disc = (b.disc.line == 1) as u8;
+    let rate = (b.rate == 50) as u8;
+    flyback * 64 + (disc * 32 + (rate * 16 + b.clock.counter))
+}
+
+// The channels out that are passed on to the host.
+fn host_takes(port: u8) -> bool
+    ensures { λ r. ⌜ r ≡ forwardedOut port ⌝ }
+{
+    match port {
+        0x01 => true,
+        0x80..=0xef => true,
+        0xfc..=0xfd => true,
+        _ => false,
+    }
+}
+
+pub fn port_in(b: Board, port: u8, ram: &[u8], boot: &[u8]) -> Answer
+    ensures { λ r. ⌜ r ≡ stepAnswer b (now (ram .entry)) (now (boot .entry)) (Step.PortIn port) ⌝ }
+{
+    let n = lent(b, ram.len(), boot.len());
+    if n != 0 {
+        return refused(b, n);
+    }
+    match port {
+        0x00 => accepted(b, 0, true),
+        0xf4 => {
+            let byte = status(b);
+            let mut after = b;
+            after.clock.counter = 0;
+            accepted(after, byte, false)
+        }
+        0xf8 => accepted(b, status(b), false),
+        _ => {
+            if host_takes(port) {
+                accepted(b, 0, true)
+            } else {
+                refused(b, 5)
+            }
+        }
+    }
+}
+
+pub fn port_out(b: Board, port: u8, value: u8, ram: &[u8], boot: &[u8]) -> Answer
+    ensures { λ r. ⌜ r ≡ stepAnswer b (now (ram .entry)) (now (boot .entry)) (Step.PortOut port value) ⌝ }
+{
+    let n = lent(b, ram.len(), boot.len());
+    if n != 0 {
+        return refused(b, n);
+    }
+    if host_takes(port) {
+        return accepted(b, 0, true);
+    }
+    match port {
+        0xf0..=0xf8 => accepted(b.out(port, value), 0, false),
+        0xfa..=0xfb => accepted(b, 0, false),
+        _ => refused(b, 5),
+    }
+}
