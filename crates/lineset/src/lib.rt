@@ -106,16 +106,12 @@ impl LineSet {
     pub fn within(self, other: LineSet) -> bool
         ensures { λ r. ⌜ r ≡ inside self other ⌝ }
     {
-        if self.words[0] | other.words[0] != other.words[0] {
-            return false;
-        }
-        if self.words[1] | other.words[1] != other.words[1] {
-            return false;
-        }
-        if self.words[2] | other.words[2] != other.words[2] {
-            return false;
-        }
-        self.words[3] | other.words[3] == other.words[3]
+        let a = other.words[0];
+        let b = other.words[1];
+        let c = other.words[2];
+        let d = other.words[3];
+        (self.words[0] | a == a)
+            & ((self.words[1] | b == b) & ((self.words[2] | c == c) & (self.words[3] | d == d)))
     }
 
     pub fn count(self) -> u16

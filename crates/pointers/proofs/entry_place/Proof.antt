@@ -23,7 +23,7 @@ add-result c = omega (arith, table-place (c .before .before .args .table))
 
 returns : tie.Need-returns
 unfolding entryPlace
-returns c = cc
+returns c = rw (c .entry .ensures, c .before .table-place .ensures)
 
 pub entry-place-spec : {M : Type 1} → statement M
 entry-place-spec =

@@ -34,7 +34,7 @@ add-result c = search needs
 
 returns : tie.Need-returns
 unfolding pointerWord
-returns c = cc
+returns c = rw (c .byte-at2 .ensures, c .before .byte-at .ensures, c .before .before .before .entry-place .ensures)
 
 shared-slice-read-result : tie.Need-shared-slice-read-result
 shared-slice-read-result c = let s = c .before .before .before .before in let p = c .before .before .entry-place .ensures in let l = entry-place-lt (s .args .table) (s .args .top) (s .args .line) (search needs) in omega arith
