@@ -2,9 +2,9 @@
 use crate::bytes::fill;
 use crate::bytes::sum;
 use board::Board;
+use compare::Place;
 use paging::Paging;
 use paging::Sizes;
-use picture::Place;
 use picture::Refreshed;
 use steps::Step;
 
@@ -87,7 +87,7 @@ fn is_whole(b: Board, ram: &[u8], picture: &[u8], full: &mut [u8]) -> bool {
     fill(full, 0, 200);
     fill(full, lineset::shown_lines(b.rate) as usize * 90, 59);
     let drawn = picture::draw(b, ram, full);
-    let d = picture::first_difference(picture, full);
+    let d = compare::first_difference(picture, full);
     let place = d.place;
     match place {
         Place::Same => (drawn.refusal == 0) & (d.refusal == 0),

@@ -5,14 +5,15 @@ ghost use Rattle.board.specs.Power.{started};
 ghost use Rattle.steps.specs.Steps.{stepAnswer, stepRam};
 ghost use Rattle.replies.specs.Replies.{stepReply, startReply, asked, sizesOf, pagingOf};
 ghost use Rattle.replies.specs.Replies.{drawReply, refreshReply, nextReply, differenceReply};
-ghost use Rattle.picture.specs.Pictures.{drawAnswer, drawPicture, refreshAnswer, refreshPicture, nextAnswer, differenceAnswer};
+ghost use Rattle.picture.specs.Pictures.{drawAnswer, drawPicture, refreshAnswer, refreshPicture, nextAnswer};
+ghost use Rattle.compare.specs.Differences.{differenceAnswer};
 ghost use Rattle.replies.specs.Replies.{reply as Replies·reply};
 use crate::numbers::ask;
 use board::Board;
+use compare::Place;
 use lineset::Line;
 use paging::Paging;
 use paging::Sizes;
-use picture::Place;
 
 // The new record, and the reply.
 pub struct Returned {
@@ -119,7 +120,7 @@ pub fn noted(b: Board, n: u32) -> u64
 pub fn differs(a: &[u8], b: &[u8]) -> u64
     ensures { λ r. ⌜ r ≡ differenceReply (differenceAnswer (now (a .entry)) (now (b .entry))) ⌝ }
 {
-    let d = picture::first_difference(a, b);
+    let d = compare::first_difference(a, b);
     let refusal = d.refusal;
     let place = d.place;
     match place {

@@ -3,9 +3,9 @@
 use Prim.Native.Nat.{_+_, _-_, _*_, _≤_}
 use native.Mathlib.Nat.{add-zero}
 use native.Mathlib.Omega.{arith}
-use Rattle.picture.proofs.Differences.{Alike, alike-none, alike-next, alike-line, alike-whole, place-same, place-found}
-use Rattle.picture.proofs.search.unequal_place.Statement.{statement}
-use Rattle.picture.proofs.search.unequal_place.Tie as tie
+use Rattle.compare.proofs.Differences.{Alike, alike-none, alike-next, alike-line, alike-whole, place-same, place-found}
+use Rattle.compare.proofs.unequal_place.Statement.{statement}
+use Rattle.compare.proofs.unequal_place.Tie as tie
 
 abbrev Inv-loop : tie.InvT-loop
 Inv-loop a b line i₀ i = (i ≤ 90) × Alike a b (line * 90 + i)

@@ -3,9 +3,9 @@
 use mathlib.Core.Bool.{and-false}
 use borrow.Author.Needs.{needs}
 use borrow.Author.Tests.{eq-eqb, ne-eqb}
-use Rattle.picture.specs.Pictures.{differenceAnswer}
-use Rattle.picture.proofs.search.first_difference.Statement.{statement}
-use Rattle.picture.proofs.search.first_difference.Tie as tie
+use Rattle.compare.specs.Differences.{differenceAnswer}
+use Rattle.compare.proofs.first_difference.Statement.{statement}
+use Rattle.compare.proofs.first_difference.Tie as tie
 
 returns : tie.Need-returns
 unfolding differenceAnswer

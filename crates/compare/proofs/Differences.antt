@@ -14,8 +14,8 @@ use lib.Bits.{bitOr, bitXor, or-add-and, xor-add-and, and-le-l, and-le-r}
 use lib.ListN.{getD}
 use lib.Pow.{shr-shr}
 use Rattle.panel.specs.Widen.{pixelOf, pixelIn}
-use Rattle.picture.specs.declared.search.Place.the-variants.{Pixel, Same}
-use Rattle.picture.specs.Pictures.{AlikeFrom, firstPixel, firstDifference}
+use Rattle.compare.specs.declared.Place.the-variants.{Pixel, Same}
+use Rattle.compare.specs.Differences.{AlikeFrom, firstPixel, firstDifference}
 
 -- ---- the pixels of two bytes, from the left: k equal ones are equal numbers above the other 8 - k
 

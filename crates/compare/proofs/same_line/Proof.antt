@@ -4,10 +4,10 @@ use Prim.Native.Nat.{_-_, _≤_}
 use native.Mathlib.Omega.{arith}
 use mathlib.Core.Path.{_≡_}
 use borrow.Author.Tests.{eqb-true}
-use Rattle.picture.specs.Pictures.{AlikeFrom}
-use Rattle.picture.proofs.Differences.{from-next}
-use Rattle.picture.proofs.search.same_line.Statement.{statement}
-use Rattle.picture.proofs.search.same_line.Tie as tie
+use Rattle.compare.specs.Differences.{AlikeFrom}
+use Rattle.compare.proofs.Differences.{from-next}
+use Rattle.compare.proofs.same_line.Statement.{statement}
+use Rattle.compare.proofs.same_line.Tie as tie
 
 abbrev Inv-loop : tie.InvT-loop
 Inv-loop a b first found₀ i₀ found i = (i ≤ 90) × (found ≡ 0 → AlikeFrom a b first i)

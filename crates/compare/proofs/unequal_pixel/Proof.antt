@@ -4,9 +4,9 @@ use Prim.Native.Nat.{_-_, _/_, _^_, _≤_}
 use native.Mathlib.Omega.{arith}
 use mathlib.Core.Path.{_≡_}
 use Rattle.panel.specs.Widen.{pixelOf}
-use Rattle.picture.proofs.Differences.{pixels-start, pixels-next, pixels-before, last-pixel}
-use Rattle.picture.proofs.search.unequal_pixel.Statement.{statement}
-use Rattle.picture.proofs.search.unequal_pixel.Tie as tie
+use Rattle.compare.proofs.Differences.{pixels-start, pixels-next, pixels-before, last-pixel}
+use Rattle.compare.proofs.unequal_pixel.Statement.{statement}
+use Rattle.compare.proofs.unequal_pixel.Tie as tie
 
 abbrev Inv-loop : tie.InvT-loop
 Inv-loop x y k₀ k = (k ≤ 7) × (x / 2 ^ (8 - k) ≡ y / 2 ^ (8 - k))
