@@ -13,7 +13,7 @@ use Rattle.panel.specs.Widen.{pixelOf, digits, byteOf, doubledByte}
 use Rattle.scanline.specs.Drawing.{pixelPlace, drawnByte}
 use Rattle.board.specs.declared.record.Board.{Board}
 use Rattle.board.specs.declared.record.Clock.{Clock}
-use Rattle.board.specs.Power.{freshBoard}
+use Rattle.power.specs.Power.{freshBoard}
 use Rattle.board.specs.Record.{frame, statusByte, withClock}
 use Rattle.board.specs.Registers.{nextBeam, ticks, scanned}
 use Rattle.steps.specs.declared.answers.Step.the-variants.{PortIn}

@@ -48,7 +48,7 @@ pub(crate) fn start(rate: u8) -> Run {
         maps: [0x80, 0x81, 0x82, 0x83],
         lock: 0,
     };
-    let on = board::power_on(sizes, rate, paging, 0x5b, 0);
+    let on = power::power_on(sizes, rate, paging, 0x5b, 0);
     counting(on.board)
 }
 

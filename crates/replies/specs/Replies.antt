@@ -17,7 +17,7 @@ use Rattle.picture.specs.declared.search.Noted.{Noted}
 use Rattle.compare.specs.declared.Place.{Place}
 use Rattle.compare.specs.declared.Place.the-variants.{Pixel, Same}
 use Rattle.compare.specs.declared.Difference.{Difference}
-use Rattle.board.specs.declared.power.Started.{Started}
+use Rattle.power.specs.declared.Started.{Started}
 use Rattle.steps.specs.declared.answers.Answer.{Answer}
 use Rattle.steps.specs.declared.answers.Step.{Step}
 use Rattle.steps.specs.declared.answers.Step.the-variants.{Fetch, Read, Write, PortIn, PortOut, Scan, Key, DiscLine, ExternalLine}

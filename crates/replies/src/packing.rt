@@ -1,7 +1,7 @@
 // Results packed in one number, and the operations by value that the C interface lends a record to.
 ghost use mathlib.Core.Path.{_≡_};
 ghost use Prim.Native.Nat.{min};
-ghost use Rattle.board.specs.Power.{started};
+ghost use Rattle.power.specs.Power.{started};
 ghost use Rattle.steps.specs.Steps.{stepAnswer, stepRam};
 ghost use Rattle.replies.specs.Replies.{stepReply, startReply, asked, sizesOf, pagingOf};
 ghost use Rattle.replies.specs.Replies.{drawReply, refreshReply, nextReply, differenceReply};
@@ -67,7 +67,7 @@ pub fn powered(
         maps: [f0, f1, f2, f3],
         lock,
     };
-    let s = board::power_on(sizes, rate, paging, f5, f6);
+    let s = power::power_on(sizes, rate, paging, f5, f6);
     let board = s.board;
     let word = reply(0, 0, s.refusal, 0);
     Returned { board, word }

@@ -14,7 +14,7 @@ use Rattle.paging.specs.declared.Sizes.{Sizes}
 use Rattle.paging.specs.declared.Paging.{Paging}
 use Rattle.paging.specs.Memory.{allowed}
 use Rattle.board.specs.declared.record.Board.{Board}
-use Rattle.board.specs.Power.{freshBoard, startRefusal, started}
+use Rattle.power.specs.Power.{freshBoard, startRefusal, started}
 use Rattle.board.specs.Record.{good, goodTime, goodDisc, goodFlags, goodRate, shownSet, frame}
 use Rattle.board.specs.Marks.{marked}
 use Rattle.board.proofs.Good.{Parts, good-parts, parts-good, both}

@@ -9,7 +9,7 @@ use borrow.Author.Tests.{eqb-true}
 use lib.Dec.{eqb}
 use Rattle.board.specs.declared.record.Board.{Board}
 use Rattle.board.specs.Record.{good}
-use Rattle.board.specs.Power.{freshBoard}
+use Rattle.power.specs.Power.{freshBoard}
 use Rattle.board.specs.Registers.{forwardedIn, command, pagingOut, videoOut, clockTold, bootTold, discTold, drivenTold, bleeperTold, written}
 use Rattle.steps.specs.declared.answers.Step.the-variants.{PortIn}
 use Rattle.steps.specs.Steps.{moved}

@@ -10,7 +10,7 @@ use Rattle.paging.specs.declared.Sizes.{Sizes}
 use Rattle.paging.specs.declared.Paging.{Paging}
 use Rattle.scanline.specs.Drawing.{drawn}
 use Rattle.board.specs.declared.record.Board.{Board}
-use Rattle.board.specs.Power.{startRefusal, started}
+use Rattle.power.specs.Power.{startRefusal, started}
 use Rattle.steps.specs.declared.answers.Step.{Step}
 use Rattle.steps.specs.declared.answers.Step.the-variants.{Fetch, Read, Write, PortIn, PortOut, Scan, Key, DiscLine, ExternalLine}
 use Rattle.steps.specs.Steps.{stepAnswer, stepRam}

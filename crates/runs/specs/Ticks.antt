@@ -9,7 +9,7 @@ use mir.Val.{boolByte}
 use Rattle.paging.specs.declared.Sizes.{Sizes}
 use Rattle.paging.specs.declared.Paging.{Paging}
 use Rattle.board.specs.declared.record.Board.{Board}
-use Rattle.board.specs.Power.{started, startRefusal}
+use Rattle.power.specs.Power.{started, startRefusal}
 use Rattle.board.specs.Registers.{command, nextBeam, ticks}
 use Rattle.steps.specs.declared.answers.Step.{Step}
 use Rattle.steps.specs.declared.answers.Step.the-variants.{Fetch, Read, Write, PortIn, PortOut, Scan, Key, DiscLine, ExternalLine}

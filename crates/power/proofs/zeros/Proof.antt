@@ -1,9 +1,9 @@
 -- `zeros` gives the record of zeros: field by field.
 -- Assumes nothing.
 use borrow.Author.Needs.{needs}
-use Rattle.board.specs.Power.{zeroBoard}
-use Rattle.board.proofs.power.zeros.Statement.{statement}
-use Rattle.board.proofs.power.zeros.Tie as tie
+use Rattle.power.specs.Power.{zeroBoard}
+use Rattle.power.proofs.zeros.Statement.{statement}
+use Rattle.power.proofs.zeros.Tie as tie
 
 returns : tie.Need-returns
 unfolding zeroBoard

@@ -5,9 +5,9 @@ use mathlib.Core.List.{[], _∷_}
 use Rattle.paging.specs.declared.Sizes.{Sizes}
 use Rattle.paging.specs.declared.Paging.{Paging}
 use Rattle.paging.specs.Memory.{allowed}
 use Rattle.board.specs.declared.record.Board.{Board}
-use Rattle.board.specs.declared.power.Started.{Started}
+use Rattle.power.specs.declared.Started.{Started}
 use Rattle.board.specs.Record.{goodRate, shownSet}
 
 -- a record of zeros
 unfoldable pub zeroBoard : Board

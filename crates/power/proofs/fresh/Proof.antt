@@ -1,10 +1,10 @@
 -- Each field is that of `freshBoard`.
 -- Assumes nothing.
-use Rattle.board.specs.Power.{freshBoard}
+use Rattle.power.specs.Power.{freshBoard}
 use Rattle.board.specs.Record.{shownSet}
 use borrow.Author.Needs.{needs}
-use Rattle.board.proofs.power.fresh.Statement.{statement}
-use Rattle.board.proofs.power.fresh.Tie as tie
+use Rattle.power.proofs.fresh.Statement.{statement}
+use Rattle.power.proofs.fresh.Tie as tie
 
 shown-requires : tie.Need-shown-requires
 shown-requires c κs = search needs

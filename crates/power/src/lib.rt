@@ -1,11 +1,11 @@
 // Power-on.
 ghost use mathlib.Core.Path.{_≡_};
-ghost use Rattle.board.specs.Power.{zeroBoard, freshBoard, started};
-use crate::record::Board;
-use crate::record::Boot;
-use crate::record::Clock;
-use crate::record::Disc;
-use crate::record::Video;
+ghost use Rattle.power.specs.Power.{zeroBoard, freshBoard, started};
+use board::Board;
+use board::Boot;
+use board::Clock;
+use board::Disc;
+use board::Video;
 use lineset::LineSet;
 use paging::Paging;
 use paging::Sizes;

@@ -4,11 +4,11 @@ use mathlib.Core.Path.{_≡_, sym, _∙_, ap}
 use mathlib.Core.Bool.{Bool, true, false, _&&_, _||_}
 use lib.Dec.{eqb}
 use Rattle.paging.specs.Memory.{allowed}
-use Rattle.board.specs.Power.{started, startRefusal}
+use Rattle.power.specs.Power.{started, startRefusal}
 use Rattle.board.specs.Record.{goodRate}
 use borrow.Author.Needs.{needs}
-use Rattle.board.proofs.power.power_on.Statement.{statement}
-use Rattle.board.proofs.power.power_on.Tie as tie
+use Rattle.power.proofs.power_on.Statement.{statement}
+use Rattle.power.proofs.power_on.Tie as tie
 
 allowed-requires : tie.Need-allowed-requires
 allowed-requires c κs = search needs
