@@ -2,9 +2,9 @@
 mod record;
 mod registers;
 
+pub use parts::Boot;
+pub use parts::Clock;
+pub use parts::Disc;
+pub use parts::Video;
+pub use parts::frame_scans;
 pub use record::Board;
-pub use record::Boot;
-pub use record::Clock;
-pub use record::Disc;
-pub use record::Video;
-pub use record::frame_scans;

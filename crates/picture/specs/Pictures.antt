@@ -9,7 +9,7 @@ use Rattle.lineset.specs.declared.Line.the-variants.{Nothing}
 use Rattle.lineset.specs.Lines.{setOf, member, countOf, firstOf, shownLines}
 use Rattle.scanline.specs.Drawing.{View, drawn}
 use Rattle.board.specs.declared.record.Board.{Board}
-use Rattle.board.specs.declared.record.Video.{Video}
+use Rattle.parts.specs.declared.Video.{Video}
 use Rattle.board.specs.Record.{good, viewOf, withDirty}
 use Rattle.picture.specs.declared.paint.Drawn.{Drawn}
 use Rattle.picture.specs.declared.paint.Refreshed.{Refreshed}

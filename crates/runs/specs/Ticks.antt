@@ -10,7 +10,8 @@ use Rattle.paging.specs.declared.Sizes.{Sizes}
 use Rattle.paging.specs.declared.Paging.{Paging}
 use Rattle.board.specs.declared.record.Board.{Board}
 use Rattle.power.specs.Power.{started, startRefusal}
-use Rattle.board.specs.Registers.{command, nextBeam, ticks}
+use Rattle.parts.specs.Parts.{nextBeam, ticks}
+use Rattle.board.specs.Registers.{command}
 use Rattle.steps.specs.declared.answers.Step.{Step}
 use Rattle.steps.specs.declared.answers.Step.the-variants.{Fetch, Read, Write, PortIn, PortOut, Scan, Key, DiscLine, ExternalLine}
 use Rattle.steps.specs.Steps.{stepRefusal, stepAnswer, stepRam}

@@ -1,9 +1,9 @@
 -- The tests are those of `videoDiffers`, in its order.
 -- Assumes nothing.
 use borrow.Author.Needs.{needs}
-use Rattle.board.specs.Registers.{videoDiffers}
-use Rattle.board.proofs.registers.video_differs.Statement.{statement}
-use Rattle.board.proofs.registers.video_differs.Tie as tie
+use Rattle.parts.specs.Parts.{videoDiffers}
+use Rattle.parts.proofs.video_differs.Statement.{statement}
+use Rattle.parts.proofs.video_differs.Tie as tie
 
 returns : tie.Need-returns
 unfolding videoDiffers

@@ -5,11 +5,11 @@ use native.Mathlib.Omega.{arith}
 use mathlib.Core.Bool.{Bool, true, false, cond}
 use borrow.Author.Tests.{lt-ltb, le-ltb}
 use lib.Dec.{eqb}
-use Rattle.board.specs.Record.{frame}
-use Rattle.board.specs.Registers.{nextBeam}
+use Rattle.parts.specs.Parts.{frame}
+use Rattle.parts.specs.Parts.{nextBeam}
 use borrow.Author.Needs.{needs}
-use Rattle.board.proofs.registers.next_beam.Statement.{statement}
-use Rattle.board.proofs.registers.next_beam.Tie as tie
+use Rattle.parts.proofs.next_beam.Statement.{statement}
+use Rattle.parts.proofs.next_beam.Tie as tie
 
 frame-pos : (rate : ℕ) → 1 ≤ frame rate
 unfolding frame

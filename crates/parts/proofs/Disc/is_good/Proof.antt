@@ -1,9 +1,9 @@
 -- The tests are those of `goodDisc`, in its order.
 -- Assumes nothing.
 use borrow.Author.Needs.{needs}
-use Rattle.board.specs.Record.{goodDisc}
-use Rattle.board.proofs.record.Disc.is_good.Statement.{statement}
-use Rattle.board.proofs.record.Disc.is_good.Tie as tie
+use Rattle.parts.specs.Parts.{goodDisc}
+use Rattle.parts.proofs.Disc.is_good.Statement.{statement}
+use Rattle.parts.proofs.Disc.is_good.Tie as tie
 
 returns : tie.Need-returns
 unfolding goodDisc

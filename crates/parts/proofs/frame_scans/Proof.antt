@@ -1,9 +1,9 @@
 -- By the test of the rate.
 -- Assumes nothing.
-use Rattle.board.specs.Record.{frame}
+use Rattle.parts.specs.Parts.{frame}
 use borrow.Author.Tests.{eq-eqb, ne-eqb}
-use Rattle.board.proofs.record.frame_scans.Statement.{statement}
-use Rattle.board.proofs.record.frame_scans.Tie as tie
+use Rattle.parts.proofs.frame_scans.Statement.{statement}
+use Rattle.parts.proofs.frame_scans.Tie as tie
 
 returns : tie.Need-returns
 unfolding frame

@@ -4,10 +4,10 @@ use Prim.Native.Nat.{_+_, _%_, min}
 use native.Mathlib.Omega.{arith}
 use mathlib.Core.Path.{_≡_}
 use borrow.Author.Tests.{eq-eqb, ne-eqb}
-use Rattle.board.specs.Registers.{scanned, ticks}
+use Rattle.parts.specs.Parts.{scanned, ticks}
 use borrow.Author.Needs.{needs}
-use Rattle.board.proofs.record.Clock.next.Statement.{statement}
-use Rattle.board.proofs.record.Clock.next.Tie as tie
+use Rattle.parts.proofs.Clock.next.Statement.{statement}
+use Rattle.parts.proofs.Clock.next.Tie as tie
 
 next-beam-requires : tie.Need-next-beam-requires
 next-beam-requires c κs = search needs
