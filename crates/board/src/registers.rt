@@ -43,57 +43,22 @@ impl Board {
     {
         let mut b = self;
         match number {
-            0 => {
-                b.boot.mode = 0;
-                b
-            }
-            1 => b.reset(),
-            2 => {
-                b.disc.route = 1;
-                b
-            }
-            3 => {
-                b.disc.route = 2;
-                b
-            }
-            4 => {
-                b.disc.route = 0;
-                b
-            }
-            5 => {
-                b.disc.terminal_count = 1;
-                b
-            }
-            6 => {
-                b.disc.terminal_count = 0;
-                b
-            }
-            7 => {
-                b.driven = 1;
-                b
-            }
-            8 => {
-                b.driven = 0;
-                b
-            }
-            9 => {
-                b.disc.motor = 1;
-                b
-            }
-            10 => {
-                b.disc.motor = 0;
-                b
-            }
-            11 => {
-                b.bleeper = 1;
-                b
-            }
-            12 => {
-                b.bleeper = 0;
-                b
-            }
-            _ => b,
+            0 => b.boot.mode = 0,
+            1 => b = b.reset(),
+            2 => b.disc.route = 1,
+            3 => b.disc.route = 2,
+            4 => b.disc.route = 0,
+            5 => b.disc.terminal_count = 1,
+            6 => b.disc.terminal_count = 0,
+            7 => b.driven = 1,
+            8 => b.driven = 0,
+            9 => b.disc.motor = 1,
+            10 => b.disc.motor = 0,
+            11 => b.bleeper = 1,
+            12 => b.bleeper = 0,
+            _ => {}
         }
+        b
     }
 
     // A register or a command, by its channel; any other channel leaves the record.
