@@ -12,7 +12,8 @@ use Rattle.answers.specs.declared.Answer.{Answer}
 use Rattle.answers.specs.declared.Step.{Step}
 use Rattle.answers.specs.declared.Step.the-variants.{Fetch, Read, Write, PortIn, PortOut, Scan, Key, DiscLine, ExternalLine}
 use Rattle.board.specs.Record.{good, nmiOf, intOf, statusByte, withClock, withBoot, withDisc, withExternal, withRoute}
-use Rattle.board.specs.Registers.{forwardedIn, forwardedOut, takenIn, takenOut, written, scanned}
+use Rattle.parts.specs.Parts.{scanned}
+use Rattle.board.specs.Registers.{forwardedIn, forwardedOut, takenIn, takenOut, written}
 
 -- the record as a step moves it, but for its dirty lines and the NMI
 unfoldable pub moved : Board → Step → Board

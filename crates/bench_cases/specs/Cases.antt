@@ -12,10 +12,10 @@ use Rattle.panel.specs.Roll.{rollOf, nearest}
 use Rattle.panel.specs.Widen.{pixelOf, digits, byteOf, doubledByte}
 use Rattle.scanline.specs.Drawing.{pixelPlace, drawnByte}
 use Rattle.board.specs.declared.record.Board.{Board}
-use Rattle.board.specs.declared.record.Clock.{Clock}
-use Rattle.board.specs.Power.{freshBoard}
-use Rattle.board.specs.Record.{frame, statusByte, withClock}
-use Rattle.board.specs.Registers.{nextBeam, ticks, scanned}
+use Rattle.parts.specs.declared.Clock.{Clock}
+use Rattle.power.specs.Power.{freshBoard}
+use Rattle.parts.specs.Parts.{frame, nextBeam, ticks, scanned}
+use Rattle.board.specs.Record.{statusByte, withClock}
 use Rattle.answers.specs.declared.Step.the-variants.{PortIn}
 use Rattle.answers.specs.Steps.{moved, stepByte}
 

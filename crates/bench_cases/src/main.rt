@@ -91,7 +91,7 @@ fn start(rate: u8) -> Board {
         maps: [0x80, 0x25, 0x98, 0x87],
         lock: 0,
     };
-    board::power_on(sizes, rate, p, 0, 0).board
+    power::power_on(sizes, rate, p, 0, 0).board
 }
 
 // Counter 3: the bytes that F8, F4 and F4 again give.

@@ -8,7 +8,8 @@ use lib.Dec.{leb}
 use Rattle.lineset.specs.Lines.{inside}
 use Rattle.paging.specs.Memory.{allowed}
 use Rattle.board.specs.declared.record.Board.{Board}
-use Rattle.board.specs.Record.{good, goodRate, goodTime, goodDisc, goodFlags, shownSet}
+use Rattle.parts.specs.Parts.{goodDisc}
+use Rattle.board.specs.Record.{good, goodRate, goodTime, goodFlags, shownSet}
 
 pub both : (x y : Bool) → (x && y) ≡ true → (x ≡ true) × (y ≡ true)
 both true y e = (refl, e)

@@ -13,9 +13,10 @@ use Rattle.lineset.proofs.Sets.{Words, set-agree, set-members, member-set}
 use Rattle.scanline.specs.Drawing.{changed, ramChanged, touches}
 use Rattle.scanline.proofs.Changes.{ram-same, store-changed}
 use Rattle.board.specs.declared.record.Board.{Board}
-use Rattle.board.specs.declared.record.Video.{Video}
+use Rattle.parts.specs.declared.Video.{Video}
 use Rattle.board.specs.Record.{viewOf, withDirty, shownSet}
-use Rattle.board.specs.Registers.{videoDiffers, noted}
+use Rattle.parts.specs.Parts.{videoDiffers}
+use Rattle.board.specs.Registers.{noted}
 use Rattle.board.specs.Marks.{marked}
 
 -- more lines, by a test of each

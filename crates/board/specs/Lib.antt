@@ -1,4 +1,3 @@
 pub mod Marks
-pub mod Power
 pub mod Record
 pub mod Registers

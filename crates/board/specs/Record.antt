@@ -7,14 +7,11 @@ use Rattle.lineset.specs.declared.LineSet.{LineSet}
 use Rattle.lineset.specs.Lines.{setOf, inside, shownLines}
 use Rattle.paging.specs.Memory.{allowed}
 use Rattle.scanline.specs.Drawing.{View}
+use Rattle.parts.specs.Parts.{frame, goodDisc}
 use Rattle.board.specs.declared.record.Board.{Board}
-use Rattle.board.specs.declared.record.Clock.{Clock}
-use Rattle.board.specs.declared.record.Boot.{Boot}
-use Rattle.board.specs.declared.record.Disc.{Disc}
-
--- scans in a frame: 312 on 50 Hz, 260 on 60 Hz
-unfoldable pub frame : ℕ → ℕ
-frame rate = cond (eqb rate 50) 312 260
+use Rattle.parts.specs.declared.Clock.{Clock}
+use Rattle.parts.specs.declared.Boot.{Boot}
+use Rattle.parts.specs.declared.Disc.{Disc}
 
 -- the lines that a rate shows
 unfoldable pub shownSet : ℕ → LineSet
@@ -22,11 +19,6 @@ shownSet rate = setOf (λ (L : ℕ). ltb L (shownLines rate))
 
 unfoldable pub goodRate : ℕ → Bool
 goodRate rate = eqb rate 50 || eqb rate 60
-
-unfoldable pub goodDisc : Disc → Bool
-goodDisc d =
-    leb (d .route) 2
-    && (leb (d .line) 1 && (leb (d .«terminal_count») 1 && (leb (d .motor) 1 && not (eqb (d .route) 1 && eqb (d .line) 1))))
 
 unfoldable pub goodFlags : Board → Bool
 goodFlags b = leb (b .external) 1 && (leb (b .driven) 1 && leb (b .bleeper) 1)

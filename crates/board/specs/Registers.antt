@@ -1,16 +1,17 @@
 -- What the channels and the scan do to the record: document 01, "Channels in", "Channels out" and "Scan".
-use Prim.Native.Nat.{ℕ, _+_, _-_, _/_, _%_, min}
-use mathlib.Core.Bool.{Bool, cond, not, _&&_, _||_}
+use Prim.Native.Nat.{ℕ, _-_, _%_}
+use mathlib.Core.Bool.{Bool, cond, _&&_, _||_}
 use lib.Dec.{eqb, ltb, leb}
 use lib.ListN.{set}
 use Rattle.lineset.specs.Lines.{setOf, member, shownLines}
 use Rattle.paging.specs.declared.Paging.{Paging}
 use Rattle.board.specs.declared.record.Board.{Board}
-use Rattle.board.specs.declared.record.Clock.{Clock}
-use Rattle.board.specs.declared.record.Boot.{Boot}
-use Rattle.board.specs.declared.record.Disc.{Disc}
-use Rattle.board.specs.declared.record.Video.{Video}
-use Rattle.board.specs.Record.{frame, withDirty}
+use Rattle.parts.specs.declared.Clock.{Clock}
+use Rattle.parts.specs.declared.Boot.{Boot}
+use Rattle.parts.specs.declared.Disc.{Disc}
+use Rattle.parts.specs.declared.Video.{Video}
+use Rattle.parts.specs.Parts.{videoDiffers}
+use Rattle.board.specs.Record.{withDirty}
 
 -- the channels passed on to the host, in and out: 80h to EFh, 01h, FCh and FDh, and 00h in
 unfoldable pub forwardedOut : ℕ → Bool
@@ -105,25 +106,6 @@ written b port value = record {
   bleeper = bleeperTold (b .bleeper) (command port value);
   dirty = b .dirty;
 }
-
--- the beam goes up by one, from the last scan of the frame to 0
-unfoldable pub nextBeam : ℕ → ℕ → ℕ
-nextBeam rate beam = cond (ltb (beam + 1) (frame rate)) (beam + 1) 0
-
--- whether a beam is a tick's
-unfoldable pub ticks : ℕ → Bool
-ticks beam = eqb (beam % 52) 2
-
--- a scan: at a tick's beam the counter rises by one, and stays at 15
-unfoldable pub scanned : ℕ → Clock → Clock
-scanned rate c = record {
-  counter = cond (ticks (nextBeam rate (c .beam))) (min 15 (c .counter + 1)) (c .counter);
-  beam = nextBeam rate (c .beam);
-}
-
--- the two of the four differences that the registers make: F5 or F6 differs, or D7 or D6 of F7
-unfoldable pub videoDiffers : Video → Video → Bool
-videoDiffers v w = not (eqb (v .table) (w .table)) || (not (eqb (v .top) (w .top)) || not (eqb (v .control / 64) (w .control / 64)))
 
 -- the record with the shown lines dirty if the registers differ from those before
 unfoldable pub noted : Board → Video → Board

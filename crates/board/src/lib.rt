@@ -1,13 +1,10 @@
-// The board: its record, power-on, and what a scan, a channel and a store do to the record, by value.
-mod power;
+// The board: its record, and what a scan, a channel and a store do to the record, by value.
 mod record;
 mod registers;
 
-pub use power::Started;
-pub use power::power_on;
+pub use parts::Boot;
+pub use parts::Clock;
+pub use parts::Disc;
+pub use parts::Video;
+pub use parts::frame_scans;
 pub use record::Board;
-pub use record::Boot;
-pub use record::Clock;
-pub use record::Disc;
-pub use record::Video;
-pub use record::frame_scans;

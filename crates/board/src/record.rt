@@ -1,42 +1,15 @@
 // The board's record (document 01: the record), and when it is good.
 ghost use mathlib.Core.Path.{_≡_};
 ghost use Rattle.lineset.specs.Lines.{inside};
-ghost use Rattle.board.specs.Record.{frame, shownSet, goodDisc, goodTime, goodFlags};
+ghost use Rattle.board.specs.Record.{shownSet, goodTime, goodFlags};
 ghost use Rattle.board.specs.Record.{good as Record·good};
 use lineset::LineSet;
 use paging::Paging;
 use paging::Sizes;
-
-// F5, F6 and F7.
-#[repr(C)]
-pub struct Video {
-    pub table: u8,
-    pub top: u8,
-    pub control: u8,
-}
-
-// The interrupt counter, 0 to 15, and the beam's scan.
-#[repr(C)]
-pub struct Clock {
-    pub counter: u8,
-    pub beam: u16,
-}
-
-// Boot mode, 0 or 1, and the place in the boot stream, 0 to 1,024.
-#[repr(C)]
-pub struct Boot {
-    pub mode: u8,
-    pub at: u16,
-}
-
-// The disc controller's interrupt route (0 none, 1 NMI, 2 INT), its line, terminal count and motor, each 0 or 1.
-#[repr(C)]
-pub struct Disc {
-    pub route: u8,
-    pub line: u8,
-    pub terminal_count: u8,
-    pub motor: u8,
-}
+use parts::Boot;
+use parts::Clock;
+use parts::Disc;
+use parts::Video;
 
 // Every field is a number, so that every bit pattern is a record, good or not. The external line, the driven
 // video and the bleeper are 0 or 1; the dirty lines are document 01's noted lines.
@@ -55,29 +28,11 @@ pub struct Board {
     pub dirty: LineSet,
 }
 
-impl Disc {
-    fn is_good(self) -> bool
-        ensures { λ r. ⌜ r ≡ goodDisc self ⌝ }
-    {
-        (self.route <= 2)
-            & ((self.line <= 1)
-                & ((self.terminal_count <= 1)
-                    & ((self.motor <= 1) & !((self.route == 1) & (self.line == 1)))))
-    }
-}
-
-// Scans in a frame.
-pub fn frame_scans(rate: u8) -> u16
-    ensures { λ r. ⌜ r ≡ frame rate ⌝ }
-{
-    if rate == 50 { 312 } else { 260 }
-}
-
 impl Board {
     fn good_time(self) -> bool
         ensures { λ r. ⌜ r ≡ goodTime self ⌝ }
     {
-        let last = frame_scans(self.rate);
+        let last = parts::frame_scans(self.rate);
         (self.clock.counter <= 15)
             & ((self.clock.beam < last) & ((self.boot.mode <= 1) & (self.boot.at <= 1024)))
     }

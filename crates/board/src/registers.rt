@@ -2,48 +2,12 @@
 ghost use mathlib.Core.Path.{_≡_};
 ghost use lib.ListN.{set};
 ghost use Rattle.board.specs.Record.{withClock};
-ghost use Rattle.board.specs.Registers.{nextBeam, written, scanned, noted, commanded, videoDiffers};
+ghost use Rattle.parts.specs.Parts.{scanned};
+ghost use Rattle.board.specs.Registers.{written, noted, commanded};
 ghost use Rattle.board.specs.Marks.{marked};
 use crate::record::Board;
-use crate::record::Clock;
-use crate::record::Video;
-use crate::record::frame_scans;
 use lineset::LineSet;
-
-// The next scan of a frame, from the last to 0.
-fn next_beam(rate: u8, beam: u16) -> u16
-    ensures { λ r. ⌜ r ≡ nextBeam rate beam ⌝ }
-{
-    let last = frame_scans(rate) - 1;
-    if beam < last { beam + 1 } else { 0 }
-}
-
-impl Clock {
-    // One scan on: the beam, and at a tick's beam the counter, which stays at 15.
-    fn next(self, rate: u8) -> Clock
-        ensures { λ r. ⌜ r ≡ scanned rate self ⌝ }
-    {
-        let counter = self.counter;
-        let beam = next_beam(rate, self.beam);
-        if beam % 52 != 2 {
-            return Clock { counter, beam };
-        }
-        if counter < 15 {
-            return Clock {
-                counter: counter + 1,
-                beam,
-            };
-        }
-        Clock { counter: 15, beam }
-    }
-}
-
-// Whether F5, F6, or D7 or D6 of F7 differ.
-fn video_differs(v: Video, w: Video) -> bool
-    ensures { λ r. ⌜ r ≡ videoDiffers v w ⌝ }
-{
-    !(v.table == w.table) | (!(v.top == w.top) | !(v.control / 64 == w.control / 64))
-}
+use parts::Video;
 
 impl Board {
     // One scan on.
@@ -79,57 +43,22 @@ impl Board {
     {
         let mut b = self;
         match number {
-            0 => {
-                b.boot.mode = 0;
-                b
-            }
-            1 => b.reset(),
-            2 => {
-                b.disc.route = 1;
-                b
-            }
-            3 => {
-                b.disc.route = 2;
-                b
-            }
-            4 => {
-                b.disc.route = 0;
-                b
-            }
-            5 => {
-                b.disc.terminal_count = 1;
-                b
-            }
-            6 => {
-                b.disc.terminal_count = 0;
-                b
-            }
-            7 => {
-                b.driven = 1;
-                b
-            }
-            8 => {
-                b.driven = 0;
-                b
-            }
-            9 => {
-                b.disc.motor = 1;
-                b
-            }
-            10 => {
-                b.disc.motor = 0;
-                b
-            }
-            11 => {
-                b.bleeper = 1;
-                b
-            }
-            12 => {
-                b.bleeper = 0;
-                b
-            }
-            _ => b,
+            0 => b.boot.mode = 0,
+            1 => b = b.reset(),
+            2 => b.disc.route = 1,
+            3 => b.disc.route = 2,
+            4 => b.disc.route = 0,
+            5 => b.disc.terminal_count = 1,
+            6 => b.disc.terminal_count = 0,
+            7 => b.driven = 1,
+            8 => b.driven = 0,
+            9 => b.disc.motor = 1,
+            10 => b.disc.motor = 0,
+            11 => b.bleeper = 1,
+            12 => b.bleeper = 0,
+            _ => {}
         }
+        b
     }
 
     // A register or a command, by its channel; any other channel leaves the record.
@@ -169,7 +98,7 @@ impl Board {
     fn note_video(self, before: Video) -> Board
         ensures { λ r. ⌜ r ≡ noted self before ⌝ }
     {
-        if !video_differs(before, self.video) {
+        if !parts::video_differs(before, self.video) {
             return self;
         }
         let dirty = self.dirty;

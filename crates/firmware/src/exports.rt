@@ -1,7 +1,7 @@
 // The C interface.
 ghost use mathlib.Core.Path.{_≡_};
 ghost use Rattle.answers.specs.Steps.{stepAnswer, stepRam};
-ghost use Rattle.board.specs.Power.{started};
+ghost use Rattle.power.specs.Power.{started};
 ghost use Rattle.replies.specs.Replies.{stepReply, startReply, asked, sizesOf, pagingOf, drawReply, refreshReply, nextReply};
 ghost use Rattle.picture.specs.Pictures.{drawAnswer, drawPicture, refreshAnswer, refreshPicture, nextAnswer};
 use board::Board;

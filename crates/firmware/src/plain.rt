@@ -5,7 +5,7 @@ ghost use Rattle.panel.specs.Roll.{rollOf};
 ghost use Rattle.panel.specs.Widen.{widenRefusal, widenedOut};
 ghost use Rattle.pointers.specs.Pointers.{pointerOf, madePointer};
 ghost use Rattle.replies.specs.Replies.{madeReply, pointerReply, reachReply, differenceReply, sizesOf, pagingOf};
-ghost use Rattle.picture.specs.Pictures.{differenceAnswer};
+ghost use Rattle.compare.specs.Differences.{differenceAnswer};
 use paging::Paging;
 use paging::Sizes;
 use replies::differs;

@@ -2,9 +2,9 @@
 use crate::bytes::fill;
 use crate::bytes::sum;
 use board::Board;
+use compare::Place;
 use paging::Paging;
 use paging::Sizes;
-use picture::Place;
 use picture::Refreshed;
 use steps::Step;
 
@@ -48,7 +48,7 @@ pub(crate) fn start(rate: u8) -> Run {
         maps: [0x80, 0x81, 0x82, 0x83],
         lock: 0,
     };
-    let on = board::power_on(sizes, rate, paging, 0x5b, 0);
+    let on = power::power_on(sizes, rate, paging, 0x5b, 0);
     counting(on.board)
 }
 
@@ -87,7 +87,7 @@ fn is_whole(b: Board, ram: &[u8], picture: &[u8], full: &mut [u8]) -> bool {
     fill(full, 0, 200);
     fill(full, lineset::shown_lines(b.rate) as usize * 90, 59);
     let drawn = picture::draw(b, ram, full);
-    let d = picture::first_difference(picture, full);
+    let d = compare::first_difference(picture, full);
     let place = d.place;
     match place {
         Place::Same => (drawn.refusal == 0) & (d.refusal == 0),

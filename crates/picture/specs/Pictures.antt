@@ -1,24 +1,19 @@
--- Pictures: drawing, refreshing, the next dirty line and the first difference. Document 01, "Scan lines".
+-- Pictures: drawing, refreshing and the next dirty line. Document 01, "Scan lines".
 -- A picture is 256 lines of 90 bytes, 23,040 bytes, leftmost pixel in the top bit.
-use Prim.Native.Nat.{ℕ, zero, suc, _+_, _<_, _-_, _*_, _/_, _%_}
-use mathlib.Core.Path.{_≡_}
-use mathlib.Core.Bool.{Bool, false, cond, not, _&&_}
+use Prim.Native.Nat.{ℕ, suc, _-_, _*_, _/_, _%_}
+use mathlib.Core.Bool.{Bool, false, cond, _&&_}
 use mathlib.Core.List.{List, [], _∷_}
 use lib.Dec.{eqb, ltb, leb}
-use lib.ListN.{length, getD}
+use lib.ListN.{length}
 use Rattle.lineset.specs.declared.Line.the-variants.{Nothing}
 use Rattle.lineset.specs.Lines.{setOf, member, countOf, firstOf, shownLines}
-use Rattle.panel.specs.Widen.{pixelIn}
 use Rattle.scanline.specs.Drawing.{View, drawn}
 use Rattle.board.specs.declared.record.Board.{Board}
-use Rattle.board.specs.declared.record.Video.{Video}
+use Rattle.parts.specs.declared.Video.{Video}
 use Rattle.board.specs.Record.{good, viewOf, withDirty}
 use Rattle.picture.specs.declared.paint.Drawn.{Drawn}
 use Rattle.picture.specs.declared.paint.Refreshed.{Refreshed}
 use Rattle.picture.specs.declared.search.Noted.{Noted}
-use Rattle.picture.specs.declared.search.Place.{Place}
-use Rattle.picture.specs.declared.search.Place.the-variants.{Pixel, Same}
-use Rattle.picture.specs.declared.search.Difference.{Difference}
 
 -- a list with f k in place of each element whose index k passes q; the first element has the index `from`
 unfoldable pub overFrom : (ℕ → Bool) → (ℕ → ℕ) → ℕ → List ℕ → List ℕ
@@ -79,20 +74,3 @@ nextAnswer b n = record {
   line = cond (eqb (nextRefusal b n) 0) (firstOf (member (b .dirty)) n (256 - n)) Nothing;
   refusal = nextRefusal b n;
 }
-
--- the first of n pixels from `from` on, in reading order, that a test holds of: its line and its pixel, 0 to 719
-unfoldable pub firstPixel : (ℕ → Bool) → ℕ → ℕ → Place
-firstPixel p from zero = Same
-firstPixel p from (suc n) = cond (p from) (Pixel (from / 720) (from % 720)) (firstPixel p (suc from) n)
-
--- the first place where two pictures differ: 2 for a wrong length
-unfoldable pub firstDifference : List ℕ → List ℕ → Place
-firstDifference a b = firstPixel (λ (j : ℕ). not (eqb (pixelIn a j) (pixelIn b j))) 0 184320
-
-unfoldable pub differenceAnswer : List ℕ → List ℕ → Difference
-differenceAnswer a b =
-    cond (eqb (length a) 23040 && eqb (length b) 23040) (record { place = firstDifference a b; refusal = 0 }) (record { place = Same; refusal = 2 })
-
--- n bytes from `first` on are the same in two lists
-abbrev pub AlikeFrom : List ℕ → List ℕ → ℕ → ℕ → Type 0
-AlikeFrom a b first n = (m : ℕ) → m < n → getD a (first + m) 0 ≡ getD b (first + m) 0

@@ -14,10 +14,10 @@ use Rattle.lineset.specs.declared.Line.the-variants.{At, Nothing}
 use Rattle.picture.specs.declared.paint.Drawn.{Drawn}
 use Rattle.picture.specs.declared.paint.Refreshed.{Refreshed}
 use Rattle.picture.specs.declared.search.Noted.{Noted}
-use Rattle.picture.specs.declared.search.Place.{Place}
-use Rattle.picture.specs.declared.search.Place.the-variants.{Pixel, Same}
-use Rattle.picture.specs.declared.search.Difference.{Difference}
-use Rattle.board.specs.declared.power.Started.{Started}
+use Rattle.compare.specs.declared.Place.{Place}
+use Rattle.compare.specs.declared.Place.the-variants.{Pixel, Same}
+use Rattle.compare.specs.declared.Difference.{Difference}
+use Rattle.power.specs.declared.Started.{Started}
 use Rattle.answers.specs.declared.Answer.{Answer}
 use Rattle.answers.specs.declared.Step.{Step}
 use Rattle.answers.specs.declared.Step.the-variants.{Fetch, Read, Write, PortIn, PortOut, Scan, Key, DiscLine, ExternalLine}

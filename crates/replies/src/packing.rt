@@ -1,18 +1,19 @@
 // Results packed in one number, and the operations by value that the C interface lends a record to.
 ghost use mathlib.Core.Path.{_≡_};
 ghost use Prim.Native.Nat.{min};
-ghost use Rattle.board.specs.Power.{started};
+ghost use Rattle.power.specs.Power.{started};
 ghost use Rattle.answers.specs.Steps.{stepAnswer, stepRam};
 ghost use Rattle.replies.specs.Replies.{stepReply, startReply, asked, sizesOf, pagingOf};
 ghost use Rattle.replies.specs.Replies.{drawReply, refreshReply, nextReply, differenceReply};
-ghost use Rattle.picture.specs.Pictures.{drawAnswer, drawPicture, refreshAnswer, refreshPicture, nextAnswer, differenceAnswer};
+ghost use Rattle.picture.specs.Pictures.{drawAnswer, drawPicture, refreshAnswer, refreshPicture, nextAnswer};
+ghost use Rattle.compare.specs.Differences.{differenceAnswer};
 ghost use Rattle.replies.specs.Replies.{reply as Replies·reply};
 use crate::numbers::ask;
 use board::Board;
+use compare::Place;
 use lineset::Line;
 use paging::Paging;
 use paging::Sizes;
-use picture::Place;
 
 // The new record, and the reply.
 pub struct Returned {
@@ -66,7 +67,7 @@ pub fn powered(
         maps: [f0, f1, f2, f3],
         lock,
     };
-    let s = board::power_on(sizes, rate, paging, f5, f6);
+    let s = power::power_on(sizes, rate, paging, f5, f6);
     let board = s.board;
     let word = reply(0, 0, s.refusal, 0);
     Returned { board, word }
@@ -119,7 +120,7 @@ pub fn noted(b: Board, n: u32) -> u64
 pub fn differs(a: &[u8], b: &[u8]) -> u64
     ensures { λ r. ⌜ r ≡ differenceReply (differenceAnswer (now (a .entry)) (now (b .entry))) ⌝ }
 {
-    let d = picture::first_difference(a, b);
+    let d = compare::first_difference(a, b);
     let refusal = d.refusal;
     let place = d.place;
     match place {

@@ -12,7 +12,7 @@ use lib.Seq.{ext-getD}
 use Rattle.lineset.specs.Lines.{shownLines}
 use Rattle.scanline.specs.Drawing.{drawn}
 use Rattle.board.specs.declared.record.Board.{Board}
-use Rattle.board.specs.Power.{freshBoard}
+use Rattle.power.specs.Power.{freshBoard}
 use Rattle.board.specs.Record.{viewOf}
 use Rattle.picture.specs.Pictures.{painted, shown, drawPicture, refreshPicture}
 use Rattle.runs.specs.Reference.{refreshRefused}

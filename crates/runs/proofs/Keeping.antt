@@ -15,9 +15,10 @@ use Rattle.lineset.proofs.Sets.{member-set}
 use Rattle.lineset.proofs.Search.{every-at, every-all}
 use Rattle.scanline.specs.Drawing.{changed}
 use Rattle.board.specs.declared.record.Board.{Board}
-use Rattle.board.specs.declared.record.Disc.{Disc}
-use Rattle.board.specs.Record.{goodTime, goodDisc, goodFlags, shownSet, frame, nmiOf, viewOf}
-use Rattle.board.specs.Registers.{command, nextBeam, ticks, scanned, written, clockTold, bootTold, discTold, drivenTold, bleeperTold}
+use Rattle.parts.specs.declared.Disc.{Disc}
+use Rattle.parts.specs.Parts.{goodDisc, frame, nextBeam, ticks, scanned}
+use Rattle.board.specs.Record.{goodTime, goodFlags, shownSet, nmiOf, viewOf}
+use Rattle.board.specs.Registers.{command, written, clockTold, bootTold, discTold, drivenTold, bleeperTold}
 use Rattle.board.specs.Marks.{marked}
 use Rattle.board.proofs.Good.{both}
 use Rattle.answers.specs.declared.Step.{Step}

@@ -9,7 +9,7 @@ use borrow.Author.Tests.{eqb-true}
 use lib.Dec.{eqb}
 use Rattle.board.specs.declared.record.Board.{Board}
 use Rattle.board.specs.Record.{good}
-use Rattle.board.specs.Power.{freshBoard}
+use Rattle.power.specs.Power.{freshBoard}
 use Rattle.board.specs.Registers.{forwardedIn, command, pagingOut, videoOut, clockTold, bootTold, discTold, drivenTold, bleeperTold, written}
 use Rattle.answers.specs.declared.Step.the-variants.{PortIn}
 use Rattle.answers.specs.Steps.{moved}

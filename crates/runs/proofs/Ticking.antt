@@ -9,9 +9,10 @@ use borrow.Author.Tests.{eqb-true, eqb-false}
 use lib.Dec.{eqb}
 use mir.Val.{boolByte}
 use Rattle.board.specs.declared.record.Board.{Board}
-use Rattle.board.specs.Power.{freshBoard}
+use Rattle.power.specs.Power.{freshBoard}
 use Rattle.board.specs.Record.{good}
-use Rattle.board.specs.Registers.{command, nextBeam, ticks, scanned, written, clockTold}
+use Rattle.parts.specs.Parts.{nextBeam, ticks, scanned}
+use Rattle.board.specs.Registers.{command, written, clockTold}
 use Rattle.board.specs.Marks.{marked}
 use Rattle.board.proofs.Good.{good-counter}
 use Rattle.answers.specs.declared.Step.{Step}

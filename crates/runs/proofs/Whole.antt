@@ -10,7 +10,7 @@ use Rattle.lineset.specs.Lines.{member, shownLines}
 use Rattle.paging.specs.declared.Sizes.{Sizes}
 use Rattle.paging.specs.declared.Paging.{Paging}
 use Rattle.board.specs.declared.record.Board.{Board}
-use Rattle.board.specs.Power.{freshBoard, startRefusal, started}
+use Rattle.power.specs.Power.{freshBoard, startRefusal, started}
 use Rattle.board.specs.Record.{shownSet}
 use Rattle.runs.specs.Reference.{Reference, begun}
 use Rattle.runs.specs.Events.{Event, step, refresh, others, Machine, stepped, redrawn, Claims, WholeRuns}

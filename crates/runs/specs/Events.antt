@@ -10,7 +10,7 @@ use Rattle.paging.specs.declared.Sizes.{Sizes}
 use Rattle.paging.specs.declared.Paging.{Paging}
 use Rattle.scanline.specs.Drawing.{drawn}
 use Rattle.board.specs.declared.record.Board.{Board}
-use Rattle.board.specs.Power.{startRefusal, started}
+use Rattle.power.specs.Power.{startRefusal, started}
 use Rattle.answers.specs.declared.Step.{Step}
 use Rattle.answers.specs.declared.Step.the-variants.{Fetch, Read, Write, PortIn, PortOut, Scan, Key, DiscLine, ExternalLine}
 use Rattle.answers.specs.Steps.{stepAnswer, stepRam}

@@ -10,7 +10,7 @@ use Rattle.paging.specs.declared.Sizes.{Sizes}
 use Rattle.paging.specs.declared.Paging.{Paging}
 use Rattle.paging.specs.Memory.{writePlace, keyboardPlace}
 use Rattle.scanline.specs.Drawing.{View, changed}
-use Rattle.board.specs.declared.record.Video.{Video}
+use Rattle.parts.specs.declared.Video.{Video}
 use Rattle.board.specs.Registers.{takenIn, takenOut, pagingOut, videoOut}
 use Rattle.answers.specs.declared.Step.{Step}
 use Rattle.answers.specs.declared.Step.the-variants.{Fetch, Read, Write, PortIn, PortOut, Scan, Key, DiscLine, ExternalLine}

@@ -9,8 +9,9 @@ use mir.Val.{boolByte}
 use Rattle.paging.specs.declared.Sizes.{Sizes}
 use Rattle.paging.specs.declared.Paging.{Paging}
 use Rattle.board.specs.declared.record.Board.{Board}
-use Rattle.board.specs.Power.{started, startRefusal}
-use Rattle.board.specs.Registers.{command, nextBeam, ticks}
+use Rattle.power.specs.Power.{started, startRefusal}
+use Rattle.parts.specs.Parts.{nextBeam, ticks}
+use Rattle.board.specs.Registers.{command}
 use Rattle.answers.specs.declared.Step.{Step}
 use Rattle.answers.specs.declared.Step.the-variants.{Fetch, Read, Write, PortIn, PortOut, Scan, Key, DiscLine, ExternalLine}
 use Rattle.answers.specs.Steps.{stepRefusal, stepAnswer, stepRam}

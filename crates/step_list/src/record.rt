@@ -13,7 +13,7 @@ pub(crate) fn power(internal: u8, total: u8, rate: u8) -> Board {
         maps: [0x80, 0x81, 0x82, 0x83],
         lock: 0,
     };
-    let s = board::power_on(sizes, rate, p, 0x20, 0);
+    let s = power::power_on(sizes, rate, p, 0x20, 0);
     small(b"power-on refusal ", s.refusal);
     text(b"\n");
     s.board

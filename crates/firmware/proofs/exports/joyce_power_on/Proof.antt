@@ -47,7 +47,7 @@ use denote.Triple.Walked.{says, needs, Stays, stay-ref, stay-none, stay-none-ref
 use denote.Exit.{yes}
 use Rattle.board.specs.declared.record.Board.{Board}
 use Rattle.replies.specs.declared.packing.Returned.{Returned}
-use Rattle.board.specs.Power.{started}
+use Rattle.power.specs.Power.{started}
 use Rattle.replies.specs.Replies.{startReply, sizesOf, pagingOf}
 use Rattle.board.proofs.record.Board as T
 use Rattle.board.proofs.record.Board.Laws as T′

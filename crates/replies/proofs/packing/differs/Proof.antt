@@ -1,7 +1,7 @@
 -- What `first_difference` answers, packed, by whether there is one.
 -- Assumes nothing.
 use mathlib.Core.Path.{sym, _∙_, ap}
-use Rattle.picture.specs.declared.search.Place.{Place}
+use Rattle.compare.specs.declared.Place.{Place}
 use Rattle.replies.specs.Replies.{differenceReply, placeReply}
 use borrow.Author.Needs.{needs}
 use Rattle.replies.proofs.packing.differs.Statement.{statement}

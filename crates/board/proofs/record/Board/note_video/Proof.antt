@@ -12,7 +12,7 @@ use Rattle.lineset.specs.Lines.{setOf, member}
 use Rattle.lineset.proofs.Sets.{Words}
 use Rattle.board.proofs.Marking.{noted-none, noted-shown}
 use Rattle.board.specs.Record.{withDirty, shownSet}
-use Rattle.board.specs.Registers.{videoDiffers}
+use Rattle.parts.specs.Parts.{videoDiffers}
 use borrow.Author.Needs.{needs}
 use Rattle.board.proofs.record.Board.note_video.Statement.{statement}
 use Rattle.board.proofs.record.Board.note_video.Tie as tie
