@@ -46,17 +46,18 @@ use denote.Triple.Table.{entered, cited}
 use denote.Triple.Walked.{says, needs, Stays, stay-ref, stay-none, stay-none-ref, stay-none-slice, gave-slice, walkOf, goes-ref, goes-none, goes-none-ref, goes-none-slice, goes-gave-slice, Walks, ends-at, walked, walk-meets}
 use denote.Exit.{yes}
 use Rattle.board.specs.declared.record.Board.{Board}
-use Rattle.replies.specs.declared.packing.Returned.{Returned}
+use Rattle.replies.specs.declared.records.Returned.{Returned}
 use Rattle.board.specs.Power.{started}
-use Rattle.replies.specs.Replies.{startReply, sizesOf, pagingOf}
+use Rattle.replies.specs.Replies.{startReply}
+use Rattle.packing.specs.Packing.{sizesOf, pagingOf}
 use Rattle.board.proofs.record.Board as T
 use Rattle.board.proofs.record.Board.Laws as T′
-use Rattle.replies.proofs.packing.Returned as S
-use Rattle.replies.proofs.packing.Returned.Laws as S′
-use Rattle.replies.proofs.packing.powered as callee
-use Rattle.replies.proofs.packing.powered.Symbol as callee-def
-use Rattle.replies.proofs.packing.powered.Symbol.{name as #callee}
-use Rattle.replies.proofs.packing.powered.Met as callee-thm
+use Rattle.replies.proofs.records.Returned as S
+use Rattle.replies.proofs.records.Returned.Laws as S′
+use Rattle.replies.proofs.records.powered as callee
+use Rattle.replies.proofs.records.powered.Symbol as callee-def
+use Rattle.replies.proofs.records.powered.Symbol.{name as #callee}
+use Rattle.replies.proofs.records.powered.Met as callee-thm
 use Rattle.firmware.proofs.exports.joyce_power_on.Key.{name as #own}
 use Rattle.firmware.proofs.exports.joyce_power_on as f
 use Rattle.firmware.proofs.exports.joyce_power_on.Statement as stated
@@ -149,4 +150,4 @@ joyce-power-on-spec 𝓤 H 𝓜 𝓖 𝓡 =
     entered 𝓤 H (tripleOf 𝓤 H (𝓖 .A) f.signature (f.spec 𝓤 H (𝓖 .A) (𝓜 .mem) (𝓡 .run)))
     (tables 𝓤 H 𝓜 𝓡 code.env .C) (tables 𝓤 H 𝓜 𝓡 code.env .Λ) #own code.function (code.unfolded 𝓤 H 𝓜 𝓡)
     (meets 𝓤 H (𝓖 .A) (givenOf 𝓤 H 𝓜 𝓖) (𝓜 .mem) (𝓡 .run) (tablesOf 𝓤 H 𝓜 (tables 𝓤 H 𝓜 𝓡 code.env))
-    (cited 𝓤 H (Called 𝓤 H (𝓖 .A) (𝓜 .mem) (𝓡 .run)) 𝓜 𝓡 code.env #callee callee-def.routine code.calls-replies·packing·powered (callee-thm.met 𝓤 H 𝓜 𝓖 𝓡)))
+    (cited 𝓤 H (Called 𝓤 H (𝓖 .A) (𝓜 .mem) (𝓡 .run)) 𝓜 𝓡 code.env #callee callee-def.routine code.calls-replies·records·powered (callee-thm.met 𝓤 H 𝓜 𝓖 𝓡)))
