@@ -1,21 +1,21 @@
--- The bench cases of document 01, shown of the rules themselves: one list, one statement.
+-- The bench cases of document 01: one list, one statement.
 use Prim.Native.Nat.{ℕ, _+_, _*_}
-use mathlib.Core.Path.{_≡_, refl}
+use mathlib.Core.Path.{_≡_}
 use mathlib.Core.Bool.{false}
 use mathlib.Core.List.{List, [], _∷_, _++_}
 use lib.IntN.{ℤ, pos, _-ℤ_}
 use Rattle.paging.specs.declared.Sizes.{Sizes}
 use Rattle.paging.specs.declared.Paging.{Paging}
-use Rattle.paging.specs.Memory.{bankOf, placeOf, lockWeight, locked, expansion, mapWrite, mapRead, readBlock, writeBlock}
+use Rattle.paging.specs.Memory.{placeOf, mapWrite, mapRead, readBlock, writeBlock}
 use Rattle.pointers.specs.Pointers.{tablePlace, entryOf, pointerOf}
-use Rattle.panel.specs.Roll.{rollOf, nearest}
-use Rattle.panel.specs.Widen.{pixelOf, digits, byteOf, doubledByte}
+use Rattle.panel.specs.Roll.{rollOf}
+use Rattle.panel.specs.Widen.{doubledByte}
 use Rattle.scanline.specs.Drawing.{pixelPlace, drawnByte}
 use Rattle.board.specs.declared.record.Board.{Board}
 use Rattle.board.specs.declared.record.Clock.{Clock}
 use Rattle.board.specs.Power.{freshBoard}
-use Rattle.board.specs.Record.{frame, statusByte, withClock}
-use Rattle.board.specs.Registers.{nextBeam, ticks, scanned}
+use Rattle.board.specs.Record.{withClock}
+use Rattle.board.specs.Registers.{scanned}
 use Rattle.steps.specs.declared.answers.Step.the-variants.{PortIn}
 use Rattle.steps.specs.Steps.{moved, stepByte}
 
@@ -123,35 +123,3 @@ cases =
 abbrev pub Hold : List Case → Type 0
 Hold [] = Unit {0}
 Hold (c ∷ cs) = (c .given ≡ c .said) × Hold cs
-
-pub bench : Hold cases
-unfolding
-    bankOf
-    placeOf
-    lockWeight
-    locked
-    expansion
-    mapWrite
-    mapRead
-    readBlock
-    writeBlock
-    tablePlace
-    entryOf
-    pointerOf
-    pixelPlace
-    drawnByte
-    pixelOf
-    digits
-    byteOf
-    doubledByte
-    nearest
-    rollOf
-    freshBoard
-    statusByte
-    frame
-    nextBeam
-    ticks
-    scanned
-    moved
-    stepByte
-bench = (refl, (refl, (refl, (refl, (refl, (refl, (refl, (refl, (refl, (refl, (refl, (refl, (refl, (refl, (refl, tt)))))))))))))))
