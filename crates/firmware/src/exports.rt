@@ -2,7 +2,9 @@
 ghost use mathlib.Core.Path.{_≡_};
 ghost use Rattle.answers.specs.Steps.{stepAnswer, stepRam};
 ghost use Rattle.power.specs.Power.{started};
-ghost use Rattle.replies.specs.Replies.{stepReply, startReply, asked, sizesOf, pagingOf, drawReply, refreshReply, nextReply};
+ghost use Rattle.replies.specs.Replies.{stepReply, startReply, drawReply, refreshReply, nextReply};
+ghost use Rattle.packing.specs.Packing.{sizesOf, pagingOf};
+ghost use Rattle.kinds.specs.Kinds.{asked};
 ghost use Rattle.picture.specs.Pictures.{drawAnswer, drawPicture, refreshAnswer, refreshPicture, nextAnswer};
 use board::Board;
 use replies::drew;

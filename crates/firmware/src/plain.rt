@@ -4,13 +4,13 @@ ghost use lib.ListN.{length};
 ghost use Rattle.panel.specs.Roll.{rollOf};
 ghost use Rattle.panel.specs.Widen.{widenRefusal, widenedOut};
 ghost use Rattle.pointers.specs.Pointers.{pointerOf, madePointer};
-ghost use Rattle.replies.specs.Replies.{madeReply, pointerReply, reachReply, differenceReply, sizesOf, pagingOf};
+ghost use Rattle.packing.specs.Packing.{madeReply, pointerReply, reachReply, sizesOf, pagingOf};
+ghost use Rattle.replies.specs.Replies.{differenceReply};
 ghost use Rattle.compare.specs.Differences.{differenceAnswer};
-use paging::Paging;
-use paging::Sizes;
+use packing::made;
+use packing::reached;
+use packing::read_back;
 use replies::differs;
-use replies::reply;
-use scanline::Pointer;
 
 // One line of 90 bytes as 180, each pixel twice; the refusal number.
 #[no_mangle]
@@ -32,8 +32,7 @@ pub extern "C" fn joyce_roll(old_top: u8, new_top: u8) -> i8
 pub extern "C" fn joyce_read_pointer(word: u16) -> u64
     ensures { λ r. ⌜ r ≡ pointerReply (pointerOf word) ⌝ }
 {
-    let p = scanline::read_pointer(word);
-    reply(p.start, 0, 0, p.block as u16)
+    read_back(word)
 }
 
 // A pointer word; numbers wider than a block or a start take are refused as those over 7 and 16,383 are.
@@ -41,18 +40,7 @@ pub extern "C" fn joyce_read_pointer(word: u16) -> u64
 pub extern "C" fn joyce_make_pointer(block: u32, start: u32) -> u64
     ensures { λ r. ⌜ r ≡ madeReply (madePointer (record { block = block; start = start })) ⌝ }
 {
-    if block > 255 {
-        return reply(0, 0, 3, 0);
-    }
-    if start > 65535 {
-        return reply(0, 0, 3, 0);
-    }
-    let p = Pointer {
-        block: block as u8,
-        start: start as u16,
-    };
-    let made = scanline::make_pointer(p);
-    reply(made.word, 0, made.refusal, 0)
+    made(block, start)
 }
 
 // Where an access lands.
@@ -69,17 +57,7 @@ pub extern "C" fn joyce_reach(
 ) -> u64
     ensures { λ r. ⌜ r ≡ reachReply (sizesOf internal total) (pagingOf f0 f1 f2 f3 lock) address ⌝ }
 {
-    let sizes = Sizes { internal, total };
-    let p = Paging {
-        maps: [f0, f1, f2, f3],
-        lock,
-    };
-    if !sizes.allowed() {
-        return reply(0, 0, 6, 0);
-    }
-    let read = p.read_block(sizes, address) as u16;
-    let write = p.write_block(sizes, address) as u16;
-    reply(paging::place(address), 0, 0, read + 256 * write)
+    reached(internal, total, f0, f1, f2, f3, lock, address)
 }
 
 // The first place where two pictures differ.

@@ -13,9 +13,9 @@ mod tally;
 use crate::bytes::fill;
 use crate::bytes::sum;
 use crate::tally::Run;
+use kinds::ask;
 use libc::STDIN_FILENO;
 use libc::STDOUT_FILENO;
-use replies::ask;
 use steps::Step;
 
 fn number(label: &[u8], n: u64) {

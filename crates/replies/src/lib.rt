@@ -1,13 +1,12 @@
-// What the C interface takes and gives, by value: a step from plain numbers, and results packed in one number.
-mod numbers;
-pub mod packing;
+// What the C interface takes and gives for a record, by value: results packed in one number.
+pub mod records;
 
-pub use numbers::ask;
-pub use packing::Returned;
-pub use packing::differs;
-pub use packing::drew;
-pub use packing::noted;
-pub use packing::powered;
-pub use packing::redrew;
-pub use packing::replied;
+pub use kinds::ask;
 pub use packing::reply;
+pub use records::Returned;
+pub use records::differs;
+pub use records::drew;
+pub use records::noted;
+pub use records::powered;
+pub use records::redrew;
+pub use records::replied;

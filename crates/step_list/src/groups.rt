@@ -26,7 +26,7 @@ fn triple(a: u8, b: u8, c: u8) -> u32 {
 }
 
 fn take(b: Board, kind: u8, at: u32, value: u8, ram: &mut [u8], boot: &[u8]) -> Answer {
-    steps::step(b, replies::ask(kind as u32, at, value as u32), ram, boot)
+    steps::step(b, kinds::ask(kind as u32, at, value as u32), ram, boot)
 }
 
 // A step and its line. Where `ticks`, only a scan that lands on a tick's beam has one.
