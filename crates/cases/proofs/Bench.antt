@@ -7,8 +7,8 @@ use Rattle.panel.specs.Roll.{rollOf, nearest}
 use Rattle.panel.specs.Widen.{pixelOf, digits, byteOf, doubledByte}
 use Rattle.scanline.specs.Drawing.{pixelPlace, drawnByte}
 use Rattle.power.specs.Power.{freshBoard}
-use Rattle.board.specs.Record.{frame, statusByte}
-use Rattle.board.specs.Registers.{nextBeam, ticks, scanned}
+use Rattle.parts.specs.Parts.{frame, nextBeam, ticks, scanned}
+use Rattle.board.specs.Record.{statusByte}
 use Rattle.answers.specs.Steps.{moved, stepByte}
 use Rattle.cases.specs.Cases.{cases, Hold}
 

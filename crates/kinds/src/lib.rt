@@ -1,7 +1,7 @@
 // A step from plain numbers.
 ghost use mathlib.Core.Path.{_≡_};
 ghost use Rattle.kinds.specs.Kinds.{asked, taken};
-use steps::Step;
+use answers::Step;
 
 // Whether a kind takes a number and a value.
 fn takes(kind: u32, number: u32, value: u32) -> bool

@@ -10,6 +10,7 @@ ghost use Rattle.replies.specs.Replies.{drawReply, refreshReply, nextRep
 ghost use Rattle.picture.specs.Pictures.{drawAnswer, drawPicture, refreshAnswer, refreshPicture, nextAnswer};
 ghost use Rattle.compare.specs.Differences.{differenceAnswer};
 use board::Board;
+use compare::Place;
 use kinds::ask;
 use lineset::Line;
 use packing::reply;
