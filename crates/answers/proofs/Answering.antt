@@ -15,33 +15,40 @@ use Rattle.board.specs.Marks.{marked}
 use Rattle.board.proofs.Good.{both}
 use Rattle.board.proofs.Marking.{marked-none}
 use Rattle.answers.specs.declared.Step.{Step}
-use Rattle.answers.specs.Steps.{moved, stored, stepByte, forwardedStep, lentRefusal, ownRefusal, stepRefusal, stepBoard, acceptedAnswer, refusedAnswer, stepAnswer, stepRam, ownAnswer, ownRam}
+use Rattle.answers.specs.Steps.{moved, stored, stepByte, forwardedStep, lentRefusal, ownRefusal, stepRefusal, stepBoard, acceptedAnswer, refusedAnswer, stepAnswer, stepRam, accepts, refuses, taken, takenRam, answerOf}
 
 module _ (b : Board) (ram boot : List ℕ) (s : Step) where
   -- the refusals of the kind itself
-  pub own-accepted : ownRefusal b (length boot) s ≡ 0 → acceptedAnswer (stepBoard b ram s) (stepByte b ram boot s) (forwardedStep s) ≡ ownAnswer b ram boot s
-  unfolding ownAnswer
+  pub own-accepted : ownRefusal b (length boot) s ≡ 0 → accepts (stepBoard b ram s) (stepByte b ram boot s) (forwardedStep s) ≡ taken b ram boot s
+  unfolding taken
   own-accepted e = rw (e)
 
-  pub own-stored : ownRefusal b (length boot) s ≡ 0 → stored b s ram ≡ ownRam b ram boot s
-  unfolding ownRam
+  pub own-stored : ownRefusal b (length boot) s ≡ 0 → stored b s ram ≡ takenRam b ram boot s
+  unfolding takenRam
   own-stored e = rw (e)
 
-  pub own-refused : (n : ℕ) → ownRefusal b (length boot) s ≡ n → (n ≡ 0 → ⊥) → refusedAnswer b n ≡ ownAnswer b ram boot s
-  unfolding ownAnswer
+  pub own-refused : (n : ℕ) → ownRefusal b (length boot) s ≡ n → (n ≡ 0 → ⊥) → refuses b n ≡ taken b ram boot s
+  unfolding taken
   own-refused n e ne = rw (e, ne-eqb n 0 ne)
 
-  pub own-kept : (n : ℕ) → ownRefusal b (length boot) s ≡ n → (n ≡ 0 → ⊥) → ram ≡ ownRam b ram boot s
-  unfolding ownRam
+  pub own-kept : (n : ℕ) → ownRefusal b (length boot) s ≡ n → (n ≡ 0 → ⊥) → ram ≡ takenRam b ram boot s
+  unfolding takenRam
   own-kept n e ne = rw (e, ne-eqb n 0 ne)
 
   -- those of record and buffers come first
-  pub step-own : lentRefusal b (length ram) (length boot) ≡ 0 → ownAnswer b ram boot s ≡ stepAnswer b ram boot s
-  unfolding ownAnswer stepAnswer stepRefusal
-  step-own e = rw (e)
+  pub step-own : lentRefusal b (length ram) (length boot) ≡ 0 → answerOf (taken b ram boot s) ≡ stepAnswer b ram boot s
+  unfolding answerOf taken stepAnswer stepRefusal
+  step-own e = rw (e) (go (eqb (ownRefusal b (length boot) s) 0) refl)
+    where
+      go : (t : Bool)
+          → eqb (ownRefusal b (length boot) s) 0 ≡ t
+          → answerOf (cond t (accepts (stepBoard b ram s) (stepByte b ram boot s) (forwardedStep s)) (refuses b (ownRefusal b (length boot) s)))
+          ≡ cond t (acceptedAnswer (stepBoard b ram s) (stepByte b ram boot s) (forwardedStep s)) (refusedAnswer b (ownRefusal b (length boot) s))
+      go true f = refl
+      go false f = rw f
 
-  pub step-own-ram : lentRefusal b (length ram) (length boot) ≡ 0 → ownRam b ram boot s ≡ stepRam b ram boot s
-  unfolding ownRam stepRam stepRefusal
+  pub step-own-ram : lentRefusal b (length ram) (length boot) ≡ 0 → takenRam b ram boot s ≡ stepRam b ram boot s
+  unfolding takenRam stepRam stepRefusal
   step-own-ram e = rw (e)
 
   pub step-refused : (n : ℕ) → lentRefusal b (length ram) (length boot) ≡ n → (n ≡ 0 → ⊥) → refusedAnswer b n ≡ stepAnswer b ram boot s
@@ -57,16 +64,16 @@ module _ (b : Board) (ram boot : List ℕ) (s : Step) where
   unfolding stepBoard
   plain e w d r v = ap (λ (l : List ℕ). marked b ram (moved b s) l) e ∙ marked-none ram b (moved b s) (rw d w) d r v
 
-  -- so its answer is that of the record as it is moved
+  -- so it takes the record as it is moved
   pub plain-own : (m : Board) (byte : ℕ) (f : Bool) → ownRefusal b (length boot) s ≡ 0 → stored b s ram ≡ ram → Words (b .dirty) → moved b s .dirty ≡ b .dirty
       → moved b s .rate ≡ b .rate
       → moved b s .video ≡ b .video
       → m ≡ moved b s
       → byte ≡ stepByte b ram boot s
       → f ≡ forwardedStep s
-      → acceptedAnswer m byte f ≡ ownAnswer b ram boot s
+      → accepts m byte f ≡ taken b ram boot s
   plain-own m byte f e k w d r v em eb ef =
-      rw (em, eb, ef) (ap (λ (x : Board). acceptedAnswer x (stepByte b ram boot s) (forwardedStep s)) (sym (plain k w d r v)) ∙ own-accepted e)
+      rw (em, eb, ef) (ap (λ (x : Board). accepts x (stepByte b ram boot s) (forwardedStep s)) (sym (plain k w d r v)) ∙ own-accepted e)
 
 -- what buffers and record that are found good tell
 module _ (b : Board) (n m : ℕ) (e : lentRefusal b n m ≡ 0) where
@@ -93,9 +100,9 @@ module _ (b : Board) (n m : ℕ) (e : lentRefusal b n m ≡ 0) where
   lent-boot = leb-true m 1024 (both (eqb n (b .sizes .total * 16384)) (leb m 1024) lengths .1)
 
 -- a kind that stores nothing leaves the RAM, refused or not
-pub ram-kept : (b : Board) (ram boot : List ℕ) (s : Step) → stored b s ram ≡ ram → ram ≡ stepRam b ram boot s
-unfolding stepRam
-ram-kept b ram boot s e = go (eqb (stepRefusal b ram boot s) 0)
+pub ram-kept : (b : Board) (ram boot : List ℕ) (s : Step) → stored b s ram ≡ ram → ram ≡ takenRam b ram boot s
+unfolding takenRam
+ram-kept b ram boot s e = go (eqb (ownRefusal b (length boot) s) 0)
   where
     go : (t : Bool) → ram ≡ cond t (stored b s ram) ram
     go true = sym e

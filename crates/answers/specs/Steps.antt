@@ -9,6 +9,7 @@ use Rattle.paging.specs.Memory.{readPlace, writePlace, keyboardPlace}
 use Rattle.board.specs.Marks.{marked}
 use Rattle.board.specs.declared.record.Board.{Board}
 use Rattle.answers.specs.declared.Answer.{Answer}
+use Rattle.answers.specs.declared.Taken.{Taken}
 use Rattle.answers.specs.declared.Step.{Step}
 use Rattle.answers.specs.declared.Step.the-variants.{Fetch, Read, Write, PortIn, PortOut, Scan, Key, DiscLine, ExternalLine}
 use Rattle.board.specs.Record.{good, nmiOf, intOf, statusByte, withClock, withBoot, withDisc, withExternal, withRoute}
@@ -72,9 +73,9 @@ settled b = withRoute b (cond (nmiOf b) 0 (b .disc .route))
 unfoldable pub lentRefusal : Board → ℕ → ℕ → ℕ
 lentRefusal b ramLength bootLength = cond (good b) (cond (eqb ramLength (b .sizes .total * 16384) && leb bootLength 1024) 0 2) 1
 
--- 3 keyboard offset over 15; 4 a fetch in boot mode at or past the stream's end; 5 not a channel of this board
+-- 3 keyboard offset over 15; 4 a fetch in boot mode at or past the stream's end, which is at most 1,024; 5 not a channel of this board
 unfoldable pub ownRefusal : Board → ℕ → Step → ℕ
-ownRefusal b bootLength (Fetch address) = cond (eqb (b .boot .mode) 1 && leb bootLength (b .boot .at)) 4 0
+ownRefusal b bootLength (Fetch address) = cond (eqb (b .boot .mode) 1 && (leb bootLength (b .boot .at) || leb 1024 (b .boot .at))) 4 0
 ownRefusal b bootLength (Read address) = 0
 ownRefusal b bootLength (Write address value) = 0
 ownRefusal b bootLength (PortIn port) = cond (takenIn port) 0 5
@@ -117,11 +118,20 @@ stepAnswer b ram boot s =
 unfoldable pub stepRam : Board → List ℕ → List ℕ → Step → List ℕ
 stepRam b ram boot s = cond (eqb (stepRefusal b ram boot s) 0) (stored b s ram) ram
 
--- the same once record and buffers are found good
-unfoldable pub ownAnswer : Board → List ℕ → List ℕ → Step → Answer
-ownAnswer b ram boot s =
-    cond (eqb (ownRefusal b (length boot) s) 0) (acceptedAnswer (stepBoard b ram s) (stepByte b ram boot s) (forwardedStep s))
-    (refusedAnswer b (ownRefusal b (length boot) s))
+-- the same once record and buffers are found good, before the lines are looked at
+abbrev pub accepts : Board → ℕ → Bool → Taken
+accepts b byte forwarded = record { board = b; byte = byte; forwarded = forwarded; refusal = 0 }
 
-unfoldable pub ownRam : Board → List ℕ → List ℕ → Step → List ℕ
-ownRam b ram boot s = cond (eqb (ownRefusal b (length boot) s) 0) (stored b s ram) ram
+abbrev pub refuses : Board → ℕ → Taken
+refuses b number = record { board = b; byte = 0; forwarded = false; refusal = number }
+
+unfoldable pub taken : Board → List ℕ → List ℕ → Step → Taken
+taken b ram boot s =
+    cond (eqb (ownRefusal b (length boot) s) 0) (accepts (stepBoard b ram s) (stepByte b ram boot s) (forwardedStep s))
+    (refuses b (ownRefusal b (length boot) s))
+
+unfoldable pub takenRam : Board → List ℕ → List ℕ → Step → List ℕ
+takenRam b ram boot s = cond (eqb (ownRefusal b (length boot) s) 0) (stored b s ram) ram
+
+unfoldable pub answerOf : Taken → Answer
+answerOf t = cond (eqb (t .refusal) 0) (acceptedAnswer (t .board) (t .byte) (t .forwarded)) (refusedAnswer (t .board) (t .refusal))

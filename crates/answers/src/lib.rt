@@ -1,7 +1,7 @@
 // What a step is given and what it answers; the interrupt lines, and the two forms of an answer.
 ghost use mathlib.Core.Path.{_≡_};
 ghost use Rattle.board.specs.Record.{intOf, nmiOf};
-ghost use Rattle.answers.specs.Steps.{acceptedAnswer, refusedAnswer, lentRefusal};
+ghost use Rattle.answers.specs.Steps.{acceptedAnswer, refusedAnswer, answerOf, lentRefusal};
 use board::Board;
 
 // A step's kind with its plain arguments: addresses, channels (ports), offsets and values.
@@ -28,6 +28,15 @@ pub struct Answer {
     pub refusal: u8,
 }
 
+// What a kind takes once record and buffers are found good: the record moved, the byte, whether the access is passed on to
+// the host, and the kind's own refusal number or 0, with the record given.
+pub struct Taken {
+    pub board: Board,
+    pub byte: u8,
+    pub forwarded: bool,
+    pub refusal: u8,
+}
+
 fn int_line(b: Board) -> bool
     ensures { λ r. ⌜ r ≡ intOf b ⌝ }
 {
@@ -41,7 +50,7 @@ fn nmi_line(b: Board) -> bool
 }
 
 // An accepted step's answer: an NMI is shown once, and then the route is none.
-pub fn accepted(b: Board, byte: u8, forwarded: bool) -> Answer
+fn accepted(b: Board, byte: u8, forwarded: bool) -> Answer
     ensures { λ r. ⌜ r ≡ acceptedAnswer b byte forwarded ⌝ }
 {
     let int = int_line(b);
@@ -74,6 +83,17 @@ pub fn refused(b: Board, number: u8) -> Answer
         nmi: known & nmi,
         forwarded: false,
         refusal: number,
+    }
+}
+
+// The answer of what a kind took.
+pub fn answered(t: Taken) -> Answer
+    ensures { λ r. ⌜ r ≡ answerOf t ⌝ }
+{
+    if t.refusal == 0 {
+        accepted(t.board, t.byte, t.forwarded)
+    } else {
+        refused(t.board, t.refusal)
     }
 }
 

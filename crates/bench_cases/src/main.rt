@@ -4,6 +4,7 @@ use board::Board;
 use paging::Paging;
 use paging::Sizes;
 use scanline::Pointer;
+use steps::Step;
 
 fn text(label: &[u8]) {
     io::write_all(1, label);
@@ -95,12 +96,12 @@ fn start(rate: u8) -> Board {
 }
 
 // Counter 3: the bytes that F8, F4 and F4 again give.
-fn status_case(label: &[u8], ram: &[u8]) {
+fn status_case(label: &[u8], ram: &mut [u8]) {
     let mut b = start(50);
     b.clock.counter = 3;
-    let first = steps::port_in(b, 0xf8, ram, b"");
-    let second = steps::port_in(first.board, 0xf4, ram, b"");
-    let third = steps::port_in(second.board, 0xf4, ram, b"");
+    let first = steps::step(b, Step::PortIn(0xf8), ram, b"");
+    let second = steps::step(first.board, Step::PortIn(0xf4), ram, b"");
+    let third = steps::step(second.board, Step::PortIn(0xf4), ram, b"");
     text(label);
     block(first.byte);
     block(second.byte);
@@ -109,17 +110,17 @@ fn status_case(label: &[u8], ram: &[u8]) {
 }
 
 // One scan from a beam with the counter at 0: the counter and the beam then.
-fn scan_case(label: &[u8], rate: u8, beam: u16, ram: &[u8]) {
+fn scan_case(label: &[u8], rate: u8, beam: u16, ram: &mut [u8]) {
     let mut b = start(rate);
     b.clock.beam = beam;
-    let a = steps::scan(b, ram, b"");
+    let a = steps::step(b, Step::Scan, ram, b"");
     text(label);
     block(a.board.clock.counter);
     number(a.board.clock.beam as u64, 3);
     text(b"\n");
 }
 
-fn clock_cases(ram: &[u8]) {
+fn clock_cases(ram: &mut [u8]) {
     status_case(b"P11", ram);
     scan_case(b"P13 1 to 2", 50, 1, ram);
     scan_case(b"P13 2 to 3", 50, 2, ram);
@@ -129,8 +130,8 @@ fn clock_cases(ram: &[u8]) {
 
 // The cases of the clock, on a RAM of 8 blocks.
 fn with_ram() {
-    let ram = [0u8; 131072];
-    clock_cases(&ram);
+    let mut ram = [0u8; 131072];
+    clock_cases(&mut ram);
 }
 
 // Pointers that are refused with 3.

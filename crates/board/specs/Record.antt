@@ -1,5 +1,5 @@
 -- The board's record: when it is good, what it shows, and its parts replaced. Document 01, "What the box holds", "Channels in" and "Scan".
-use Prim.Native.Nat.{ℕ, _+_}
+use Prim.Native.Nat.{ℕ, _+_, _%_}
 use mathlib.Core.Bool.{Bool, cond, not, _&&_, _||_}
 use mathlib.Core.List.{List}
 use lib.Dec.{eqb, ltb, leb}
@@ -42,9 +42,9 @@ nmiOf b = eqb (b .disc .route) 1 && eqb (b .disc .line) 1
 unfoldable pub intOf : Board → Bool
 intOf b = not (eqb (b .clock .counter) 0) || (eqb (b .external) 1 || (eqb (b .disc .line) 1 && eqb (b .disc .route) 2))
 
--- F8 as read, and F4: 64 in the flyback, 32 with the disc line on, 16 on 50 Hz, and the counter
+-- F8 as read, and F4: 64 in the flyback, 32 with the disc line on, 16 on 50 Hz, and the counter, which has four bits
 unfoldable pub statusByte : Board → ℕ
-statusByte b = cond (ltb (b .clock .beam) 26) 64 0 + (cond (eqb (b .disc .line) 1) 32 0 + (cond (eqb (b .rate) 50) 16 0 + b .clock .counter))
+statusByte b = cond (ltb (b .clock .beam) 26) 64 0 + (cond (eqb (b .disc .line) 1) 32 0 + (cond (eqb (b .rate) 50) 16 0 + b .clock .counter % 16))
 
 -- the record with one part replaced
 abbrev pub withDirty : Board → LineSet → Board

@@ -1,25 +1,20 @@
-// Channels (ports) in and out. Each checks record and buffers, then answers.
+// What channels (ports) in and out take once record and buffers are found good.
 ghost use mathlib.Core.Path.{_≡_};
-ghost use Prim.Native.Nat.{_≤_};
 ghost use Rattle.board.specs.Record.{statusByte};
 ghost use Rattle.board.specs.Registers.{forwardedOut};
-ghost use Rattle.answers.specs.Steps.{stepAnswer};
-use answers::Answer;
+ghost use Rattle.answers.specs.Steps.{taken};
 use answers::Step;
-use answers::accepted;
-use answers::lent;
-use answers::refused;
+use answers::Taken;
 use board::Board;
 
 // F8 as read: 64 in the flyback, 32 with the disc line on, 16 on 50 Hz, and the counter.
 fn status(b: Board) -> u8
-    requires { ⌜ b .clock .counter ≤ 15 ⌝ }
     ensures { λ r. ⌜ r ≡ statusByte b ⌝ }
 {
     let flyback = (b.clock.beam < 26) as u8;
     let disc = (b.disc.line == 1) as u8;
     let rate = (b.rate == 50) as u8;
-    flyback * 64 + (disc * 32 + (rate * 16 + b.clock.counter))
+    flyback * 64 + (disc * 32 + (rate * 16 + b.clock.counter % 16))
 }
 
 // The channels out that are passed on to the host.
@@ -34,45 +29,82 @@ fn host_takes(port: u8) -> bool
     }
 }
 
-pub fn port_in(b: Board, port: u8, ram: &[u8], boot: &[u8]) -> Answer
-    ensures { λ r. ⌜ r ≡ stepAnswer b (now (ram .entry)) (now (boot .entry)) (Step.PortIn port) ⌝ }
+pub fn take_port_in(b: Board, port: u8, ram: &[u8], boot: &[u8]) -> Taken
+    ensures { λ r. ⌜ r ≡ taken b (now (ram .entry)) (now (boot .entry)) (Step.PortIn port) ⌝ }
 {
-    let n = lent(b, ram.len(), boot.len());
-    if n != 0 {
-        return refused(b, n);
-    }
     match port {
-        0x00 => accepted(b, 0, true),
+        0x00 => Taken {
+            board: b,
+            byte: 0,
+            forwarded: true,
+            refusal: 0,
+        },
         0xf4 => {
             let byte = status(b);
             let mut after = b;
             after.clock.counter = 0;
-            accepted(after, byte, false)
+            Taken {
+                board: after,
+                byte,
+                forwarded: false,
+                refusal: 0,
+            }
         }
-        0xf8 => accepted(b, status(b), false),
+        0xf8 => Taken {
+            board: b,
+            byte: status(b),
+            forwarded: false,
+            refusal: 0,
+        },
         _ => {
             if host_takes(port) {
-                accepted(b, 0, true)
+                Taken {
+                    board: b,
+                    byte: 0,
+                    forwarded: true,
+                    refusal: 0,
+                }
             } else {
-                refused(b, 5)
+                Taken {
+                    board: b,
+                    byte: 0,
+                    forwarded: false,
+                    refusal: 5,
+                }
             }
         }
     }
 }
 
-pub fn port_out(b: Board, port: u8, value: u8, ram: &[u8], boot: &[u8]) -> Answer
-    ensures { λ r. ⌜ r ≡ stepAnswer b (now (ram .entry)) (now (boot .entry)) (Step.PortOut port value) ⌝ }
+pub fn take_port_out(b: Board, port: u8, value: u8, ram: &[u8], boot: &[u8]) -> Taken
+    ensures { λ r. ⌜ r ≡ taken b (now (ram .entry)) (now (boot .entry)) (Step.PortOut port value) ⌝ }
 {
-    let n = lent(b, ram.len(), boot.len());
-    if n != 0 {
-        return refused(b, n);
-    }
     if host_takes(port) {
-        return accepted(b, 0, true);
+        return Taken {
+            board: b,
+            byte: 0,
+            forwarded: true,
+            refusal: 0,
+        };
     }
     match port {
-        0xf0..=0xf8 => accepted(b.out(port, value), 0, false),
-        0xfa..=0xfb => accepted(b, 0, false),
-        _ => refused(b, 5),
+        0xf0..=0xf8 => Taken {
+            board: b.out(port, value),
+            byte: 0,
+            forwarded: false,
+            refusal: 0,
+        },
+        0xfa..=0xfb => Taken {
+            board: b,
+            byte: 0,
+            forwarded: false,
+            refusal: 0,
+        },
+        _ => Taken {
+            board: b,
+            byte: 0,
+            forwarded: false,
+            refusal: 5,
+        },
     }
 }

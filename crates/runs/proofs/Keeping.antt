@@ -9,6 +9,7 @@ use mathlib.Core.List.{List}
 use borrow.Author.Tests.{leb-true, leb-false, le-leb, ltb-true, lt-ltb}
 use lib.Dec.{eqb, ltb, leb}
 use mir.Val.{boolByte}
+use Rattle.lineset.proofs.Any.{or-second}
 use Rattle.lineset.specs.declared.LineSet.{LineSet}
 use Rattle.lineset.specs.Lines.{setOf, member, inside, shownLines}
 use Rattle.lineset.proofs.Sets.{member-set}
@@ -70,12 +71,12 @@ fetched : (b : Board) (n : ℕ) (address : ℕ) → n ≤ 1024 → ownRefusal b 
 unfolding ownRefusal
 fetched b n address l e h = go (eqb (b .boot .mode) 1) refl
   where
-    at : (t : Bool) → leb n (b .boot .at) ≡ t → _≡_ {A = ℕ} (cond t 4 0) 0 → b .boot .at + 1 ≤ 1024
+    at : (t : Bool) → (leb n (b .boot .at) || leb 1024 (b .boot .at)) ≡ t → _≡_ {A = ℕ} (cond t 4 0) 0 → b .boot .at + 1 ≤ 1024
     at true f g = absurd (omega arith)
-    at false f g = let k = leb-false n (b .boot .at) f in omega arith
+    at false f g = let k = leb-false 1024 (b .boot .at) (or-second (leb n (b .boot .at)) _ f) in omega arith
 
     go : (t : Bool) → eqb (b .boot .mode) 1 ≡ t → cond t (b .boot .at + 1) (b .boot .at) ≤ 1024
-    go true f = at (leb n (b .boot .at)) refl (rw f at e)
+    go true f = at (leb n (b .boot .at) || leb 1024 (b .boot .at)) refl (rw f at e)
     go false f = h
 
 pub moved-time : (b : Board) (n : ℕ) (s : Step) → n ≤ 1024 → ownRefusal b n s ≡ 0 → Time b → Time (moved b s)

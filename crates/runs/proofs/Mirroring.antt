@@ -5,7 +5,7 @@ use native.Mathlib.Omega.{arith}
 use mathlib.Core.Path.{_≡_, refl, sym, _∙_, ap, ap₂, fun-ext}
 use mathlib.Core.Bool.{Bool, true, false, cond, _&&_, _||_, or-false, and-false, true≢false}
 use mathlib.Core.List.{List}
-use borrow.Author.Tests.{eqb-true, eqb-false, ltb-true, ltb-false, le-ltb}
+use borrow.Author.Tests.{eqb-true, eqb-false, leb-true, leb-false, lt-leb, ltb-true, ltb-false, le-ltb}
 use lib.Dec.{eqb, ltb, leb}
 use lib.ListN.{length}
 use Rattle.lineset.specs.declared.LineSet.{LineSet}
@@ -17,6 +17,7 @@ use Rattle.board.specs.declared.record.Board.{Board}
 use Rattle.board.specs.Record.{good, viewOf}
 use Rattle.board.specs.Registers.{takenIn, takenOut, written}
 use Rattle.board.specs.Marks.{marked}
+use Rattle.board.proofs.Good.{both}
 use Rattle.answers.specs.declared.Step.{Step}
 use Rattle.answers.specs.declared.Step.the-variants.{Fetch, Read, Write, PortIn, PortOut, Scan, Key, DiscLine, ExternalLine}
 use Rattle.answers.specs.Steps.{moved, stored, settled, lentRefusal, ownRefusal, stepRefusal, stepBoard, stepAnswer, stepRam}
@@ -38,30 +39,39 @@ choose false n = go (eqb n 0) refl
     go true e = eqb-true n 0 e
     go false e = refl
 
-own-tabled : (b : Board) (n : ℕ) (s : Step) → ownRefusal b n s ≡ cond (eqb (kindRefused s) 0) (cond (atEnd b n s) 4 0) (kindRefused s)
+-- a place past 1,024 is past the end of any stream that is lent
+past-end : (n at : ℕ) → n ≤ 1024 → (leb n at || leb 1024 at) ≡ leb n at
+past-end n at l = go (leb n at) refl
+  where
+    go : (t : Bool) → leb n at ≡ t → (t || leb 1024 at) ≡ t
+    go true e = refl
+    go false e = let k = leb-false n at e in lt-leb 1024 at (omega arith)
+
+own-tabled : (b : Board) (n : ℕ) (s : Step) → n ≤ 1024 → ownRefusal b n s ≡ cond (eqb (kindRefused s) 0) (cond (atEnd b n s) 4 0) (kindRefused s)
 unfolding ownRefusal kindRefused
-own-tabled b n (Fetch address) = refl
-own-tabled b n (Read address) = refl
-own-tabled b n (Write address value) = refl
-own-tabled b n (PortIn port) = choose (takenIn port) 5
-own-tabled b n (PortOut port value) = choose (takenOut port) 5
-own-tabled b n Scan = refl
-own-tabled b n (Key offset value) = choose (leb offset 15) 3
-own-tabled b n (DiscLine on) = refl
-own-tabled b n (ExternalLine on) = refl
+own-tabled b n (Fetch address) l = ap (λ (t : Bool). cond (eqb (b .boot .mode) 1 && t) 4 0) (past-end n (b .boot .at) l)
+own-tabled b n (Read address) l = refl
+own-tabled b n (Write address value) l = refl
+own-tabled b n (PortIn port) l = choose (takenIn port) 5
+own-tabled b n (PortOut port value) l = choose (takenOut port) 5
+own-tabled b n Scan l = refl
+own-tabled b n (Key offset value) l = choose (leb offset 15) 3
+own-tabled b n (DiscLine on) l = refl
+own-tabled b n (ExternalLine on) l = refl
 
 -- the refusal number of a step on a good record
 pub step-tabled : (b : Board) (ram boot : List ℕ) (s : Step) → good b ≡ true
     → stepRefusal b ram boot s
     ≡ cond (eqb (stepRefused (mirror b ram) (length boot) s) 0) (cond (atEnd b (length boot) s) 4 0) (stepRefused (mirror b ram) (length boot) s)
 unfolding stepRefusal stepRefused lentRefusal
-step-tabled b ram boot s g = rw g (go (eqb (length ram) (b .sizes .total * 16384) && leb (length boot) 1024))
+step-tabled b ram boot s g = rw g (go (eqb (length ram) (b .sizes .total * 16384) && leb (length boot) 1024) refl)
   where
     go : (t : Bool)
+        → (eqb (length ram) (b .sizes .total * 16384) && leb (length boot) 1024) ≡ t
         → cond (eqb (cond t 0 2) 0) (ownRefusal b (length boot) s) (cond t 0 2)
         ≡ cond (eqb (cond t (kindRefused s) 2) 0) (cond (atEnd b (length boot) s) 4 0) (cond t (kindRefused s) 2)
-    go true = own-tabled b (length boot) s
-    go false = refl
+    go true e = own-tabled b (length boot) s (leb-true (length boot) 1024 (both (eqb (length ram) (b .sizes .total * 16384)) _ e .1))
+    go false e = refl
 
 -- ---- an accepted step
 

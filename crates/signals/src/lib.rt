@@ -1,46 +1,46 @@
-// The scan, the disc line and the external line. Each checks record and buffers, then answers.
+// What a scan, the disc line and the external line take once record and buffers are found good.
 ghost use mathlib.Core.Path.{_≡_};
-ghost use Rattle.answers.specs.Steps.{stepAnswer};
-use answers::Answer;
+ghost use Rattle.answers.specs.Steps.{taken};
 use answers::Step;
-use answers::accepted;
-use answers::lent;
-use answers::refused;
+use answers::Taken;
 use board::Board;
 
 // One scan: the beam moves on, and at a tick the counter.
-pub fn scan(b: Board, ram: &[u8], boot: &[u8]) -> Answer
-    ensures { λ r. ⌜ r ≡ stepAnswer b (now (ram .entry)) (now (boot .entry)) Step.Scan ⌝ }
+pub fn take_scan(b: Board, ram: &[u8], boot: &[u8]) -> Taken
+    ensures { λ r. ⌜ r ≡ taken b (now (ram .entry)) (now (boot .entry)) Step.Scan ⌝ }
 {
-    let n = lent(b, ram.len(), boot.len());
-    if n != 0 {
-        return refused(b, n);
+    Taken {
+        board: b.scan(),
+        byte: 0,
+        forwarded: false,
+        refusal: 0,
     }
-    accepted(b.scan(), 0, false)
 }
 
-pub fn disc_line(b: Board, on: bool, ram: &[u8], boot: &[u8]) -> Answer
-    ensures { λ r. ⌜ r ≡ stepAnswer b (now (ram .entry)) (now (boot .entry)) (Step.DiscLine on) ⌝ }
+pub fn take_disc_line(b: Board, on: bool, ram: &[u8], boot: &[u8]) -> Taken
+    ensures { λ r. ⌜ r ≡ taken b (now (ram .entry)) (now (boot .entry)) (Step.DiscLine on) ⌝ }
 {
-    let n = lent(b, ram.len(), boot.len());
-    if n != 0 {
-        return refused(b, n);
-    }
     let line = on as u8;
     let mut after = b;
     after.disc.line = line;
-    accepted(after, 0, false)
+    Taken {
+        board: after,
+        byte: 0,
+        forwarded: false,
+        refusal: 0,
+    }
 }
 
-pub fn external_line(b: Board, on: bool, ram: &[u8], boot: &[u8]) -> Answer
-    ensures { λ r. ⌜ r ≡ stepAnswer b (now (ram .entry)) (now (boot .entry)) (Step.ExternalLine on) ⌝ }
+pub fn take_external_line(b: Board, on: bool, ram: &[u8], boot: &[u8]) -> Taken
+    ensures { λ r. ⌜ r ≡ taken b (now (ram .entry)) (now (boot .entry)) (Step.ExternalLine on) ⌝ }
 {
-    let n = lent(b, ram.len(), boot.len());
-    if n != 0 {
-        return refused(b, n);
-    }
     let line = on as u8;
     let mut after = b;
     after.external = line;
-    accepted(after, 0, false)
+    Taken {
+        board: after,
+        byte: 0,
+        forwarded: false,
+        refusal: 0,
+    }
 }

@@ -1,31 +1,47 @@
-// Any step by its kind. Each kind takes the record and hands the next one on in its answer, and is lent RAM and boot stream.
+// The nine steps. A step takes the record and hands the next one on in its answer, and is lent RAM and boot stream.
 ghost use mathlib.Core.Path.{_≡_};
-ghost use Rattle.answers.specs.Steps.{stepAnswer, stepRam};
+ghost use Rattle.answers.specs.Steps.{taken, takenRam, stepAnswer, stepRam};
 pub use answers::Answer;
 pub use answers::Step;
+use answers::Taken;
+use answers::answered;
+use answers::lent;
+use answers::refused;
 use board::Board;
-pub use memory::data_read;
-pub use memory::data_write;
-pub use memory::fetch;
-pub use memory::keyboard_word;
-pub use ports::port_in;
-pub use ports::port_out;
-pub use signals::disc_line;
-pub use signals::external_line;
-pub use signals::scan;
+use memory::take_fetch;
+use memory::take_key;
+use memory::take_read;
+use memory::take_write;
+use ports::take_port_in;
+use ports::take_port_out;
+use signals::take_disc_line;
+use signals::take_external_line;
+use signals::take_scan;
 
+// What the kind takes, once record and buffers are found good.
+fn take(b: Board, s: Step, ram: &mut [u8], boot: &[u8]) -> Taken
+    ensures { λ r. ⌜ (r ≡ taken b (now (ram .entry)) (now (boot .entry)) s) × (now (ram .exit) ≡ takenRam b (now (ram .entry)) (now (boot .entry)) s) ⌝ }
+{
+    match s {
+        Step::Fetch(address) => take_fetch(b, address, ram, boot),
+        Step::Read(address) => take_read(b, address, ram, boot),
+        Step::Write(address, value) => take_write(b, address, value, ram, boot),
+        Step::PortIn(port) => take_port_in(b, port, ram, boot),
+        Step::PortOut(port, value) => take_port_out(b, port, value, ram, boot),
+        Step::Scan => take_scan(b, ram, boot),
+        Step::Key(offset, value) => take_key(b, offset, value, ram, boot),
+        Step::DiscLine(on) => take_disc_line(b, on, ram, boot),
+        Step::ExternalLine(on) => take_external_line(b, on, ram, boot),
+    }
+}
+
+// A step of any kind: record and buffers are checked first, and once.
 pub fn step(b: Board, s: Step, ram: &mut [u8], boot: &[u8]) -> Answer
     ensures { λ r. ⌜ (r ≡ stepAnswer b (now (ram .entry)) (now (boot .entry)) s) × (now (ram .exit) ≡ stepRam b (now (ram .entry)) (now (boot .entry)) s) ⌝ }
 {
-    match s {
-        Step::Fetch(address) => fetch(b, address, ram, boot),
-        Step::Read(address) => data_read(b, address, ram, boot),
-        Step::Write(address, value) => data_write(b, address, value, ram, boot),
-        Step::PortIn(port) => port_in(b, port, ram, boot),
-        Step::PortOut(port, value) => port_out(b, port, value, ram, boot),
-        Step::Scan => scan(b, ram, boot),
-        Step::Key(offset, value) => keyboard_word(b, offset, value, ram, boot),
-        Step::DiscLine(on) => disc_line(b, on, ram, boot),
-        Step::ExternalLine(on) => external_line(b, on, ram, boot),
+    let n = lent(b, ram.len(), boot.len());
+    if n != 0 {
+        return refused(b, n);
     }
+    answered(take(b, s, ram, boot))
 }

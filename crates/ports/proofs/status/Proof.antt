@@ -1,4 +1,4 @@
--- Each test weighs 64, 32 or 16, and the counter is at most 15.
+-- Each test weighs 64, 32 or 16, and the counter has four bits.
 -- Assumes nothing.
 use Prim.Native.Nat.{_≤_}
 use native.Mathlib.Omega.{arith}
