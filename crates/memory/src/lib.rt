@@ -55,10 +55,10 @@ pub fn take_read(b: Board, address: u16, ram: &[u8], boot: &[u8]) -> Taken
     ensures { λ r. ⌜ r ≡ taken b (now (ram .entry)) (now (boot .entry)) (Step.Read address) ⌝ }
 {
     let p = b.paging;
-    let byte = byte_at(ram, p.read_place(b.sizes, address));
+    let read = byte_at(ram, p.read_place(b.sizes, address));
     Taken {
         board: b,
-        byte,
+        byte: read,
         forwarded: false,
         refusal: 0,
     }
@@ -88,10 +88,10 @@ pub fn take_write(b: Board, address: u16, value: u8, ram: &mut [u8], boot: &[u8]
             refusal: 0,
         };
     }
-    let after = b.store(ram, at, value);
+    let stored = b.store(ram, at, value);
     put(ram, at, value);
     Taken {
-        board: after,
+        board: stored,
         byte: 0,
         forwarded: false,
         refusal: 0,

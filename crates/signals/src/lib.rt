@@ -1,46 +1,7 @@
 // What a scan, the disc line and the external line take once record and buffers are found good.
-ghost use mathlib.Core.Path.{_≡_};
-ghost use Rattle.answers.specs.Steps.{taken};
-use answers::Step;
-use answers::Taken;
-use board::Board;
+mod lines;
+mod scan;
 
-// One scan: the beam moves on, and at a tick the counter.
-pub fn take_scan(b: Board, ram: &[u8], boot: &[u8]) -> Taken
-    ensures { λ r. ⌜ r ≡ taken b (now (ram .entry)) (now (boot .entry)) Step.Scan ⌝ }
-{
-    Taken {
-        board: b.scan(),
-        byte: 0,
-        forwarded: false,
-        refusal: 0,
-    }
-}
-
-pub fn take_disc_line(b: Board, on: bool, ram: &[u8], boot: &[u8]) -> Taken
-    ensures { λ r. ⌜ r ≡ taken b (now (ram .entry)) (now (boot .entry)) (Step.DiscLine on) ⌝ }
-{
-    let line = on as u8;
-    let mut after = b;
-    after.disc.line = line;
-    Taken {
-        board: after,
-        byte: 0,
-        forwarded: false,
-        refusal: 0,
-    }
-}
-
-pub fn take_external_line(b: Board, on: bool, ram: &[u8], boot: &[u8]) -> Taken
-    ensures { λ r. ⌜ r ≡ taken b (now (ram .entry)) (now (boot .entry)) (Step.ExternalLine on) ⌝ }
-{
-    let line = on as u8;
-    let mut after = b;
-    after.external = line;
-    Taken {
-        board: after,
-        byte: 0,
-        forwarded: false,
-        refusal: 0,
-    }
-}
+pub use lines::take_disc_line;
+pub use lines::take_external_line;
+pub use scan::take_scan;

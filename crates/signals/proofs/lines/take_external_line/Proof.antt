@@ -7,12 +7,12 @@ use lib.ListN.{getD}
 use mir.Val.{Fits}
 use mir.Syntax.{w64}
 use Rattle.lineset.proofs.Sets.{Words}
-use Rattle.answers.specs.declared.Step.the-variants.{DiscLine}
+use Rattle.answers.specs.declared.Step.the-variants.{ExternalLine}
 use Rattle.answers.specs.Steps.{moved, stored, stepByte, forwardedStep, ownRefusal}
 use Rattle.answers.proofs.Answering.{plain-own}
 use borrow.Author.Needs.{needs}
-use Rattle.signals.proofs.take_disc_line.Statement.{statement}
-use Rattle.signals.proofs.take_disc_line.Tie as tie
+use Rattle.signals.proofs.lines.take_external_line.Statement.{statement}
+use Rattle.signals.proofs.lines.take_external_line.Tie as tie
 
 fits : (s : tie.Start) (j : ℕ) → Fits w64 (getD (s .args .b .dirty .words) j 0)
 fits s j = search needs
@@ -26,11 +26,11 @@ cast-line c = search needs
 returns : tie.Need-returns
 unfolding moved stored stepByte forwardedStep ownRefusal
 returns c =
-    let s = c .before in
-    plain-own (s .args .b) (now (s .args .ram)) (now (s .args .boot)) (DiscLine (s .args .on)) _ _ _ refl refl (words s) refl refl refl refl refl refl
+    let s = c in
+    plain-own (s .args .b) (now (s .args .ram)) (now (s .args .boot)) (ExternalLine (s .args .on)) _ _ _ refl refl (words s) refl refl refl refl refl refl
 
-pub take-disc-line-spec : {M : Type 1} → statement M
-take-disc-line-spec =
+pub take-external-line-spec : {M : Type 1} → statement M
+take-external-line-spec =
     tie.close
     (tie.spec
     cast-line
