@@ -143,7 +143,7 @@ fn refused_case(label: &[u8], at: u8, start: u16) {
     text(b"\n");
 }
 
-fn main() {
+fn memory_cases() {
     map_case(b"P1", 16, 16, 0x98);
     map_case(b"P2", 32, 32, 0x98);
     map_case(b"P3 A7", 32, 40, 0xa7);
@@ -151,6 +151,9 @@ fn main() {
     address_case(b"P4", 0x00, 0x4000);
     address_case(b"P5 lock 10", 0x10, 0x4000);
     address_case(b"P5 lock 20", 0x20, 0x4000);
+}
+
+fn line_cases() {
     pointer_case(b"P6", 0x2c98);
     pointer_case(b"P7", 0xffff);
     pixel_case(b"P8 byte 71", 0x3ee0, 71);
@@ -160,6 +163,9 @@ fn main() {
     text(b"\nP10");
     block(scanline::entry(0xff, 1));
     text(b"\n");
+}
+
+fn pixel_cases() {
     drawn_case(b"P12 on", 0x40, 0xa5);
     drawn_case(b"P12 reverse", 0xc0, 0xa5);
     drawn_case(b"P12 off", 0x00, 0xa5);
@@ -167,10 +173,20 @@ fn main() {
     text(b"P12 widened");
     number(scanline::doubled(0xa5) as u64, 4);
     text(b"\n");
-    with_ram();
+}
+
+fn roll_cases() {
     roll_case(b"P14 255 to 0 is 1", 255, 0, 1);
     roll_case(b"P14 0 to 255 is -1", 0, 255, -1);
     roll_case(b"P14 0 to 128 is -128", 0, 128, -128);
+}
+
+fn main() {
+    memory_cases();
+    line_cases();
+    pixel_cases();
+    with_ram();
+    roll_cases();
     address_case(b"FFFF", 0x00, 0xffff);
     refused_case(b"block over 7", 8, 0);
     refused_case(b"start over 16,383", 0, 16384);

@@ -39,6 +39,10 @@ pub(crate) fn sets() {
     flag(b"some within shown at 60: ", s.within(shown));
     flag(b" at 50: ", s.within(LineSet::shown(50)));
     flag(b" the common ones at 60: ", both.within(shown));
+    rates();
+}
+
+fn rates() {
     medium(b"\nshown lines ", lineset::shown_lines(50));
     medium(b" ", lineset::shown_lines(60));
     medium(b" ", lineset::shown_lines(0));

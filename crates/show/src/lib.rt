@@ -1,6 +1,11 @@
 // Prints texts, numbers, records and answers to standard output: addresses, bytes and registers in hex, all else in decimal.
 use board::Board;
+use board::Boot;
+use board::Clock;
+use board::Disc;
+use board::Video;
 use lineset::LineSet;
+use paging::Paging;
 use steps::Answer;
 
 pub fn text(label: &[u8]) {
@@ -40,28 +45,44 @@ pub fn set(name: &[u8], s: LineSet) {
     hex(b" ", s.words[3], 16);
 }
 
-// All of a record but the noted lines.
-pub fn record(b: Board) {
-    small(b"   ", b.sizes.internal);
-    small(b" of ", b.sizes.total);
-    small(b" rate ", b.rate);
-    let p = b.paging;
+fn paging_bytes(p: Paging) {
     byte(b" maps ", p.maps[0]);
     byte(b" ", p.maps[1]);
     byte(b" ", p.maps[2]);
     byte(b" ", p.maps[3]);
     byte(b" lock ", p.lock);
-    byte(b" F5 ", b.video.table);
-    byte(b" F6 ", b.video.top);
-    byte(b" F7 ", b.video.control);
-    small(b" counter ", b.clock.counter);
-    medium(b" beam ", b.clock.beam);
-    small(b" boot ", b.boot.mode);
-    medium(b" at ", b.boot.at);
-    small(b" route ", b.disc.route);
-    small(b" line ", b.disc.line);
-    small(b" count ", b.disc.terminal_count);
-    small(b" motor ", b.disc.motor);
+}
+
+fn video_bytes(v: Video) {
+    byte(b" F5 ", v.table);
+    byte(b" F6 ", v.top);
+    byte(b" F7 ", v.control);
+}
+
+// Counter, beam, boot mode and place.
+fn times(c: Clock, b: Boot) {
+    small(b" counter ", c.counter);
+    medium(b" beam ", c.beam);
+    small(b" boot ", b.mode);
+    medium(b" at ", b.at);
+}
+
+fn disc_bytes(d: Disc) {
+    small(b" route ", d.route);
+    small(b" line ", d.line);
+    small(b" count ", d.terminal_count);
+    small(b" motor ", d.motor);
+}
+
+// All of a record but the noted lines.
+pub fn record(b: Board) {
+    small(b"   ", b.sizes.internal);
+    small(b" of ", b.sizes.total);
+    small(b" rate ", b.rate);
+    paging_bytes(b.paging);
+    video_bytes(b.video);
+    times(b.clock, b.boot);
+    disc_bytes(b.disc);
     small(b" external ", b.external);
     small(b" driven ", b.driven);
     small(b" bleeper ", b.bleeper);
@@ -81,10 +102,7 @@ pub fn answer(a: Answer) {
     flag(b" host ", a.forwarded);
     small(b" refusal ", a.refusal);
     let b = a.board;
-    small(b" counter ", b.clock.counter);
-    medium(b" beam ", b.clock.beam);
-    small(b" boot ", b.boot.mode);
-    medium(b" at ", b.boot.at);
+    times(b.clock, b.boot);
     small(b" route ", b.disc.route);
     let s = b.dirty;
     medium(b" noted ", s.count());
