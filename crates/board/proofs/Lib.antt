@@ -1,3 +1,3 @@
-pub mod Channels
+pub mod Ports
 pub mod Good
 pub mod Marking

@@ -16,7 +16,7 @@ use Rattle.board.specs.declared.record.Board.{Board}
 use Rattle.parts.specs.declared.Video.{Video}
 use Rattle.board.specs.Record.{viewOf, withDirty, shownSet}
 use Rattle.parts.specs.Parts.{videoDiffers}
-use Rattle.board.specs.Registers.{noted}
+use Rattle.board.specs.Registers.{dirtied}
 use Rattle.board.specs.Marks.{marked}
 
 -- more lines, by a test of each
@@ -46,9 +46,9 @@ registers-changed ram b c L = go (eqb (b .video .table) (c .video .table)) refl 
         ∙ ram-same (viewOf b ram) (c .video .control) L
 
 -- so marking with the same RAM is noting by the registers
-pub marked-noted : (ram : List ℕ) (b c : Board) → c .dirty ≡ b .dirty → c .rate ≡ b .rate → marked b ram c ram ≡ noted c (b .video)
-unfolding marked noted
-marked-noted ram b c d r =
+pub marked-dirtied : (ram : List ℕ) (b c : Board) → c .dirty ≡ b .dirty → c .rate ≡ b .rate → marked b ram c ram ≡ dirtied c (b .video)
+unfolding marked dirtied
+marked-dirtied ram b c d r =
     ap (λ (s : LineSet). withDirty c s)
     (more-agree (b .dirty) (λ (L : ℕ). ltb L (shownLines (b .rate)) && changed (viewOf b ram) (viewOf c ram) L)
     (λ (L : ℕ). ltb L (shownLines (b .rate)) && videoDiffers (b .video) (c .video))
@@ -56,9 +56,9 @@ marked-noted ram b c d r =
     ∙ ap₂ (λ (s : LineSet) (n : ℕ). setOf (λ (L : ℕ). member s L || (ltb L (shownLines n) && videoDiffers (b .video) (c .video)))) (sym d) (sym r))
 
 -- if the registers do not differ, nothing is noted
-pub noted-none : (c : Board) → Words (c .dirty) → (before : Video) → videoDiffers before (c .video) ≡ false → noted c before ≡ c
-unfolding noted
-noted-none c w before e =
+pub dirtied-none : (c : Board) → Words (c .dirty) → (before : Video) → videoDiffers before (c .video) ≡ false → dirtied c before ≡ c
+unfolding dirtied
+dirtied-none c w before e =
     ap (λ (s : LineSet). withDirty c s)
     (more-none (c .dirty) w (λ (L : ℕ). ltb L (shownLines (c .rate)) && videoDiffers before (c .video))
     (λ L l. ap (λ (t : Bool). ltb L (shownLines (c .rate)) && t) e ∙ and-false (ltb L (shownLines (c .rate)))))
@@ -70,13 +70,13 @@ video-same v = rw (eq-eqb (v .table) (v .table) refl, eq-eqb (v .top) (v .top) r
 -- a record moved with the registers and the RAM as they were is marked as it is
 pub marked-none : (ram : List ℕ) (b c : Board) → Words (c .dirty) → c .dirty ≡ b .dirty → c .rate ≡ b .rate → c .video ≡ b .video → marked b ram c ram ≡ c
 marked-none ram b c w d r v =
-    marked-noted ram b c d r ∙ noted-none c w (b .video) (ap (λ (x : Video). videoDiffers (b .video) x) v ∙ video-same (b .video))
+    marked-dirtied ram b c d r ∙ dirtied-none c w (b .video) (ap (λ (x : Video). videoDiffers (b .video) x) v ∙ video-same (b .video))
 
 -- if they differ, every shown line is
-pub noted-shown : (c : Board) (before : Video) → videoDiffers before (c .video) ≡ true
-    → withDirty c (setOf (λ (L : ℕ). member (c .dirty) L || member (shownSet (c .rate)) L)) ≡ noted c before
-unfolding noted shownSet
-noted-shown c before e =
+pub dirtied-shown : (c : Board) (before : Video) → videoDiffers before (c .video) ≡ true
+    → withDirty c (setOf (λ (L : ℕ). member (c .dirty) L || member (shownSet (c .rate)) L)) ≡ dirtied c before
+unfolding dirtied shownSet
+dirtied-shown c before e =
     ap (λ (s : LineSet). withDirty c s)
     (more-agree (c .dirty) (member (setOf (λ (L : ℕ). ltb L (shownLines (c .rate))))) (λ (L : ℕ). ltb L (shownLines (c .rate)) && videoDiffers before (c .video))
     (λ L l.

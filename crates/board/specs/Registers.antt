@@ -108,5 +108,5 @@ written b port value = record {
 }
 
 -- the record with the shown lines dirty if the registers differ from those before
-unfoldable pub noted : Board → Video → Board
-noted b before = withDirty b (setOf (λ (L : ℕ). member (b .dirty) L || (ltb L (shownLines (b .rate)) && videoDiffers before (b .video))))
+unfoldable pub dirtied : Board → Video → Board
+dirtied b before = withDirty b (setOf (λ (L : ℕ). member (b .dirty) L || (ltb L (shownLines (b .rate)) && videoDiffers before (b .video))))

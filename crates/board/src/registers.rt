@@ -3,7 +3,7 @@ ghost use mathlib.Core.Path.{_≡_};
 ghost use lib.ListN.{set};
 ghost use Rattle.board.specs.Record.{withClock};
 ghost use Rattle.parts.specs.Parts.{scanned};
-ghost use Rattle.board.specs.Registers.{written, noted, commanded};
+ghost use Rattle.board.specs.Registers.{written, dirtied, commanded};
 ghost use Rattle.board.specs.Marks.{marked};
 use crate::record::Board;
 use lineset::LineSet;
@@ -95,8 +95,8 @@ impl Board {
     }
 
     // The shown lines are dirty if F5, F6, or D7 or D6 of F7 differ from those before.
-    fn note_video(self, before: Video) -> Board
-        ensures { λ r. ⌜ r ≡ noted self before ⌝ }
+    fn dirty_video(self, before: Video) -> Board
+        ensures { λ r. ⌜ r ≡ dirtied self before ⌝ }
     {
         if !parts::video_differs(before, self.video) {
             return self;
@@ -109,10 +109,10 @@ impl Board {
 
     // A write to a channel, with the lines that it makes dirty.
     pub fn out(self, port: u8, value: u8) -> Board
-        ensures { λ r. ⌜ r ≡ noted (written self port value) (self .video) ⌝ }
+        ensures { λ r. ⌜ r ≡ dirtied (written self port value) (self .video) ⌝ }
     {
         let before = self.video;
-        self.write_port(port, value).note_video(before)
+        self.write_port(port, value).dirty_video(before)
     }
 
     // A byte to be stored at a place of the RAM, with the lines that it makes dirty; the RAM is not written here.

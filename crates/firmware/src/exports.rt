@@ -8,7 +8,7 @@ ghost use Rattle.kinds.specs.Kinds.{asked};
 ghost use Rattle.picture.specs.Pictures.{drawAnswer, drawPicture, refreshAnswer, refreshPicture, nextAnswer};
 use board::Board;
 use replies::drew;
-use replies::noted;
+use replies::next_line;
 use replies::powered;
 use replies::redrew;
 use replies::replied;
@@ -70,5 +70,5 @@ pub extern "C" fn joyce_refresh(b: &mut Board, ram: &[u8], picture: &mut [u8]) -
 pub extern "C" fn joyce_next_noted(b: &Board, n: u32) -> u64
     ensures { λ r. ⌜ r ≡ nextReply (nextAnswer (now (b .entry)) n) ⌝ }
 {
-    noted(*b, n)
+    next_line(*b, n)
 }

@@ -78,13 +78,10 @@ impl LineSet {
     pub fn union(self, other: LineSet) -> LineSet
         ensures { λ r. ⌜ r ≡ setOf (λ (L : ℕ). member self L || member other L) ⌝ }
     {
+        let a = self.words;
+        let b = other.words;
         LineSet {
-            words: [
-                self.words[0] | other.words[0],
-                self.words[1] | other.words[1],
-                self.words[2] | other.words[2],
-                self.words[3] | other.words[3],
-            ],
+            words: [a[0] | b[0], a[1] | b[1], a[2] | b[2], a[3] | b[3]],
         }
     }
 
@@ -92,13 +89,10 @@ impl LineSet {
     pub fn intersection(self, other: LineSet) -> LineSet
         ensures { λ r. ⌜ r ≡ setOf (λ (L : ℕ). member self L && member other L) ⌝ }
     {
+        let a = self.words;
+        let b = other.words;
         LineSet {
-            words: [
-                self.words[0] & other.words[0],
-                self.words[1] & other.words[1],
-                self.words[2] & other.words[2],
-                self.words[3] & other.words[3],
-            ],
+            words: [a[0] & b[0], a[1] & b[1], a[2] & b[2], a[3] & b[3]],
         }
     }
 
@@ -106,12 +100,10 @@ impl LineSet {
     pub fn within(self, other: LineSet) -> bool
         ensures { λ r. ⌜ r ≡ inside self other ⌝ }
     {
-        let a = other.words[0];
-        let b = other.words[1];
-        let c = other.words[2];
-        let d = other.words[3];
-        (self.words[0] | a == a)
-            & ((self.words[1] | b == b) & ((self.words[2] | c == c) & (self.words[3] | d == d)))
+        let a = self.words;
+        let b = other.words;
+        (a[0] | b[0] == b[0])
+            & ((a[1] | b[1] == b[1]) & ((a[2] | b[2] == b[2]) & (a[3] | b[3] == b[3])))
     }
 
     pub fn count(self) -> u16

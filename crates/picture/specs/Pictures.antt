@@ -13,7 +13,7 @@ use Rattle.parts.specs.declared.Video.{Video}
 use Rattle.board.specs.Record.{good, viewOf, withDirty}
 use Rattle.picture.specs.declared.paint.Drawn.{Drawn}
 use Rattle.picture.specs.declared.paint.Refreshed.{Refreshed}
-use Rattle.picture.specs.declared.search.Noted.{Noted}
+use Rattle.picture.specs.declared.search.NextDirty.{NextDirty}
 
 -- a list with f k in place of each element whose index k passes q; the first element has the index `from`
 unfoldable pub overFrom : (ℕ → Bool) → (ℕ → ℕ) → ℕ → List ℕ → List ℕ
@@ -69,7 +69,7 @@ refreshPicture b ram picture =
 unfoldable pub nextRefusal : Board → ℕ → ℕ
 nextRefusal b n = cond (good b) (cond (leb n 255) 0 3) 1
 
-unfoldable pub nextAnswer : Board → ℕ → Noted
+unfoldable pub nextAnswer : Board → ℕ → NextDirty
 nextAnswer b n = record {
   line = cond (eqb (nextRefusal b n) 0) (firstOf (member (b .dirty)) n (256 - n)) Nothing;
   refusal = nextRefusal b n;

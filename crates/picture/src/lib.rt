@@ -6,5 +6,5 @@ pub use paint::Drawn;
 pub use paint::Refreshed;
 pub use paint::draw;
 pub use paint::refresh;
-pub use search::Noted;
+pub use search::NextDirty;
 pub use search::next_dirty;

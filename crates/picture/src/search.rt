@@ -5,29 +5,29 @@ use board::Board;
 use lineset::Line;
 
 // The line, and the refusal number or 0.
-pub struct Noted {
+pub struct NextDirty {
     pub line: Line,
     pub refusal: u8,
 }
 
 // The first dirty line at or after n.
-pub fn next_dirty(b: Board, n: u16) -> Noted
+pub fn next_dirty(b: Board, n: u16) -> NextDirty
     ensures { λ r. ⌜ r ≡ nextAnswer b n ⌝ }
 {
     if !b.good() {
-        return Noted {
+        return NextDirty {
             line: Line::Nothing,
             refusal: 1,
         };
     }
     if n > 255 {
-        return Noted {
+        return NextDirty {
             line: Line::Nothing,
             refusal: 3,
         };
     }
     let dirty = b.dirty;
-    Noted {
+    NextDirty {
         line: dirty.next(n),
         refusal: 0,
     }

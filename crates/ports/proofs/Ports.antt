@@ -9,7 +9,7 @@ use lib.Dec.{eqb, leb}
 use mir.Val.{boolByte}
 use Rattle.board.specs.declared.record.Board.{Board}
 use Rattle.board.specs.Registers.{forwardedIn, forwardedOut, takenIn, takenOut, written}
-use Rattle.board.proofs.Channels.{written-below, written-other, maps-above}
+use Rattle.board.proofs.Ports.{written-below, written-other, maps-above}
 
 pub weighed : (t : Bool) (n : ℕ) → boolByte t * n ≡ cond t n 0
 weighed true n = omega arith

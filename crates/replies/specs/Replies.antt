@@ -6,7 +6,7 @@ use Rattle.lineset.specs.declared.Line.{Line}
 use Rattle.lineset.specs.declared.Line.the-variants.{At, Nothing}
 use Rattle.picture.specs.declared.paint.Drawn.{Drawn}
 use Rattle.picture.specs.declared.paint.Refreshed.{Refreshed}
-use Rattle.picture.specs.declared.search.Noted.{Noted}
+use Rattle.picture.specs.declared.search.NextDirty.{NextDirty}
 use Rattle.compare.specs.declared.Place.{Place}
 use Rattle.compare.specs.declared.Place.the-variants.{Pixel, Same}
 use Rattle.compare.specs.declared.Difference.{Difference}
@@ -27,7 +27,7 @@ unfoldable pub lineReply : Line → ℕ → ℕ
 lineReply (At line) refusal = reply line 16 refusal 0
 lineReply Nothing refusal = reply 0 0 refusal 0
 
-unfoldable pub nextReply : Noted → ℕ
+unfoldable pub nextReply : NextDirty → ℕ
 nextReply n = lineReply (n .line) (n .refusal)
 
 -- a line and a pixel of it, or none

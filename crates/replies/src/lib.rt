@@ -6,7 +6,7 @@ pub use packing::reply;
 pub use records::Returned;
 pub use records::differs;
 pub use records::drew;
-pub use records::noted;
+pub use records::next_line;
 pub use records::powered;
 pub use records::redrew;
 pub use records::replied;

@@ -99,7 +99,7 @@ fn at_most_256(n: u32) -> u16
 }
 
 // The next dirty line, packed.
-pub fn noted(b: Board, n: u32) -> u64
+pub fn next_line(b: Board, n: u32) -> u64
     ensures { λ r. ⌜ r ≡ nextReply (nextAnswer b n) ⌝ }
 {
     let a = picture::next_dirty(b, at_most_256(n));

@@ -34,7 +34,7 @@ pub record Holds (alone : Bool) (start : List ℕ) (m : Machine) : Type 0 where
       → getD (m .picture) (90 * L + i) 0 ≡ drawn (viewOf (m .board) (m .ram)) L i
 
 pub agrees : (alone : Bool) (start : List ℕ) (m : Machine) → Holds alone start m → Agrees alone start m (mirror (m .board) (m .ram))
-agrees alone start m h = record { ram = refl; noted = λ L. refl; size = h .size; outside = h .outside }
+agrees alone start m h = record { ram = refl; dirty = λ L. refl; size = h .size; outside = h .outside }
 
 -- ---- a step
 

@@ -48,7 +48,7 @@ redrawn m = record {
 -- outside the shown lines stand as at the start", the last if nobody else has written on the picture.
 pub record Agrees (alone : Bool) (start : List ℕ) (m : Machine) (r : Reference) : Type 0 where
   pub ram : m .ram ≡ r .ram
-  pub noted : (L : ℕ) → member (m .board .dirty) L ≡ r .marks L
+  pub dirty : (L : ℕ) → member (m .board .dirty) L ≡ r .marks L
   pub size : alone ≡ true → length (m .picture) ≡ length start
   pub outside : alone ≡ true → (k : ℕ) → 90 * shownLines (r .rate) ≤ k → getD (m .picture) k 0 ≡ getD start k 0
 

@@ -89,7 +89,7 @@ pub fn record(b: Board) {
 }
 
 // The noted lines.
-pub fn noted(b: Board) {
+pub fn dirty_lines(b: Board) {
     set(b"   noted ", b.dirty);
     text(b"\n");
 }

@@ -7,8 +7,8 @@ use crate::record::power;
 use board::Board;
 use show::answer;
 use show::byte;
+use show::dirty_lines;
 use show::flag;
-use show::noted;
 use show::record;
 use show::small;
 use show::text;
@@ -61,7 +61,7 @@ fn many(b: Board, kind: u8, n: u32, ram: &mut [u8], boot: &[u8]) -> Board {
 }
 
 // All 256 channels, each from the same record: the refusal, and whether it is passed on.
-fn channels(b: Board, kind: u8, value: u8, ram: &mut [u8], boot: &[u8]) {
+fn every_port(b: Board, kind: u8, value: u8, ram: &mut [u8], boot: &[u8]) {
     for n in 0..256 {
         let a = take(b, kind, n, value, ram, boot);
         small(b" ", a.refusal);
@@ -86,7 +86,7 @@ fn act(board: Board, op: u8, a: u8, b: u8, c: u8, ram: &mut [u8], boot: &[u8]) -
         }
         17 => many(board, c, triple(a, b, 0), ram, boot),
         18 => {
-            channels(board, a, b, ram, boot);
+            every_port(board, a, b, ram, boot);
             board
         }
         19 => {
@@ -104,11 +104,11 @@ fn alone(board: Board, op: u8, a: u8, b: u8, c: u8) -> Board {
         13 => field(board, a, b, c),
         14 => {
             record(board);
-            noted(board);
+            dirty_lines(board);
             board
         }
         15 => {
-            noted(board);
+            dirty_lines(board);
             board
         }
         _ => {

@@ -11,7 +11,7 @@ use mir.Syntax.{w64}
 use Rattle.lineset.proofs.Sets.{Words}
 use Rattle.board.specs.declared.record.Board.{Board}
 use Rattle.board.specs.Registers.{forwardedOut, takenOut, written}
-use Rattle.board.proofs.Marking.{marked-noted}
+use Rattle.board.proofs.Marking.{marked-dirtied}
 use Rattle.answers.specs.declared.Step.the-variants.{PortOut}
 use Rattle.answers.specs.Steps.{moved, stored, stepByte, forwardedStep, ownRefusal, stepBoard, accepts, refuses, taken}
 use Rattle.answers.proofs.Answering.{plain-own, own-accepted, own-refused}
@@ -66,7 +66,7 @@ returns-2 c =
     let lo : 0xF0 ≤ s .args .port = search needs in
     let hi : s .args .port ≤ 0xF8 = search needs in
     let st : stepBoard (s .args .b) (now (s .args .ram)) (PortOut (s .args .port) (s .args .value)) ≡ c .out .result =
-    marked-noted (now (s .args .ram)) (s .args .b) (written (s .args .b) (s .args .port) (s .args .value)) (unfold written in refl) (unfold written in refl) ∙ sym (c .out .ensures) in
+    marked-dirtied (now (s .args .ram)) (s .args .b) (written (s .args .b) (s .args .port) (s .args .value)) (unfold written in refl) (unfold written in refl) ∙ sym (c .out .ensures) in
     rw (← st, ← board-channel (s .args .port) lo (omega arith)) (own-accepted (s .args .b) (now (s .args .ram)) (now (s .args .boot)) (PortOut (s .args .port) (s .args .value)) (rw (register-taken (s .args .port) lo hi)))
 
 returns-3 : tie.Need-returns-3

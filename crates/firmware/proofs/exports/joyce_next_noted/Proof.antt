@@ -49,10 +49,10 @@ use Rattle.picture.specs.Pictures.{nextAnswer}
 use Rattle.replies.specs.Replies.{nextReply}
 use Rattle.board.proofs.record.Board as T
 use Rattle.board.proofs.record.Board.Laws as T′
-use Rattle.replies.proofs.records.noted as callee
-use Rattle.replies.proofs.records.noted.Symbol as callee-def
-use Rattle.replies.proofs.records.noted.Symbol.{name as #callee}
-use Rattle.replies.proofs.records.noted.Met as callee-thm
+use Rattle.replies.proofs.records.next_line as callee
+use Rattle.replies.proofs.records.next_line.Symbol as callee-def
+use Rattle.replies.proofs.records.next_line.Symbol.{name as #callee}
+use Rattle.replies.proofs.records.next_line.Met as callee-thm
 use Rattle.firmware.proofs.exports.joyce_next_noted.Key.{name as #own}
 use Rattle.firmware.proofs.exports.joyce_next_noted as f
 use Rattle.firmware.proofs.exports.joyce_next_noted.Statement as stated

@@ -15,64 +15,80 @@ use Rattle.lineset.proofs.Operations.{inside-words}
 use Rattle.lineset.proofs.LineSet.within.Statement.{statement}
 use Rattle.lineset.proofs.LineSet.within.Tie as tie
 
-fits-self : (c : tie.Start) (j : ℕ) → Fits w64 (getD (c .args .t1 .words) j 0)
+fits-self : (c : tie.Start) (j : ℕ) → Fits w64 (getD (c .args .self .words) j 0)
 fits-self c j = search needs
 
-self-words : (c : tie.Start) → Words (c .args .t1)
+self-words : (c : tie.Start) → Words (c .args .self)
 self-words c = record { four = search needs; small = λ j. fits-self c j .fits }
 
-fits-other : (c : tie.Start) (j : ℕ) → Fits w64 (getD (c .args .t2 .words) j 0)
+fits-other : (c : tie.Start) (j : ℕ) → Fits w64 (getD (c .args .other .words) j 0)
 fits-other c j = search needs
 
-other-words : (c : tie.Start) → Words (c .args .t2)
+other-words : (c : tie.Start) → Words (c .args .other)
 other-words c = record { four = search needs; small = λ j. fits-other c j .fits }
 
 -- whether word j gains no digit from the other set's
 test : tie.Start → ℕ → Bool
-test s j = eqb (bitOr (getD (s .args .t1 .words) j 0) (getD (s .args .t2 .words) j 0)) (getD (s .args .t2 .words) j 0)
+test s j = eqb (bitOr (getD (s .args .self .words) j 0) (getD (s .args .other .words) j 0)) (getD (s .args .other .words) j 0)
 
-whole : (s : tie.Start) → inside (s .args .t1) (s .args .t2) ≡ (test s 0 && (test s 1 && (test s 2 && test s 3)))
+whole : (s : tie.Start) → inside (s .args .self) (s .args .other) ≡ (test s 0 && (test s 1 && (test s 2 && test s 3)))
 unfolding test
-whole s = inside-words (s .args .t1) (s .args .t2) (self-words s) (other-words s)
+whole s = inside-words (s .args .self) (s .args .other) (self-words s) (other-words s)
 
-element-copy-out-a : tie.Need-element-copy-out-a
-element-copy-out-a c = search needs
+array-read-result : tie.Need-array-read-result
+array-read-result c = search needs
 
-element-copy-out-b : tie.Need-element-copy-out-b
-element-copy-out-b c = search needs
+array-read-result-2 : tie.Need-array-read-result-2
+array-read-result-2 c = search needs
 
-element-copy-out-c : tie.Need-element-copy-out-c
-element-copy-out-c c = search needs
+array-read-result-3 : tie.Need-array-read-result-3
+array-read-result-3 c = search needs
 
-element-copy-out-d : tie.Need-element-copy-out-d
-element-copy-out-d c = search needs
+array-read-result-4 : tie.Need-array-read-result-4
+array-read-result-4 c = search needs
 
-element-copy-out-result : tie.Need-element-copy-out-result
-element-copy-out-result c = search needs
+array-read-result-5 : tie.Need-array-read-result-5
+array-read-result-5 c = search needs
 
-element-copy-out-result-2 : tie.Need-element-copy-out-result-2
-element-copy-out-result-2 c = search needs
+array-read-result-6 : tie.Need-array-read-result-6
+array-read-result-6 c = search needs
 
-element-copy-out-result-3 : tie.Need-element-copy-out-result-3
-element-copy-out-result-3 c = search needs
+array-read-result-7 : tie.Need-array-read-result-7
+array-read-result-7 c = search needs
 
-element-copy-out-result-4 : tie.Need-element-copy-out-result-4
-element-copy-out-result-4 c = search needs
+array-read-result-8 : tie.Need-array-read-result-8
+array-read-result-8 c = search needs
+
+array-read-result-9 : tie.Need-array-read-result-9
+array-read-result-9 c = search needs
+
+array-read-result-10 : tie.Need-array-read-result-10
+array-read-result-10 c = search needs
+
+array-read-result-11 : tie.Need-array-read-result-11
+array-read-result-11 c = search needs
+
+array-read-result-12 : tie.Need-array-read-result-12
+array-read-result-12 c = search needs
 
 returns : tie.Need-returns
 unfolding test
-returns c = let s = c .before .before .before .before .before .before .before .before in sym (whole s)
+returns c = let s = c .before .before in sym (whole s)
 
 pub within-spec : {M : Type 1} → statement M
 within-spec =
     tie.close
     (tie.spec
-    element-copy-out-a
-    element-copy-out-b
-    element-copy-out-c
-    element-copy-out-d
-    element-copy-out-result
-    element-copy-out-result-2
-    element-copy-out-result-3
-    element-copy-out-result-4
+    array-read-result
+    array-read-result-2
+    array-read-result-3
+    array-read-result-4
+    array-read-result-5
+    array-read-result-6
+    array-read-result-7
+    array-read-result-8
+    array-read-result-9
+    array-read-result-10
+    array-read-result-11
+    array-read-result-12
     returns)

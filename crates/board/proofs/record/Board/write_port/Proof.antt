@@ -1,6 +1,6 @@
 -- Each channel leaves the fields that `written` says.
 -- Assumes nothing.
-use Rattle.board.proofs.Channels.{written-map, written-below, written-other, maps-above}
+use Rattle.board.proofs.Ports.{written-map, written-below, written-other, maps-above}
 use Rattle.board.specs.Registers.{written, pagingOut, videoOut, command, commanded, videoTold, clockTold, bootTold, discTold, drivenTold, bleeperTold}
 use borrow.Author.Needs.{needs}
 use Rattle.board.proofs.record.Board.write_port.Statement.{statement}

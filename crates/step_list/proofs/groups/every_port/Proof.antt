@@ -1,10 +1,10 @@
--- `channels` is safe and ends: the loop counts to 256, and the RAM keeps its length.
+-- `every_port` is safe and ends: the loop counts to 256, and the RAM keeps its length.
 use Prim.Native.Nat.{_≤_, _-_}
 use mathlib.Core.Path.{_≡_}
 use lib.ListN.{length}
 use borrow.Author.Needs.{needs}
-use Rattle.step_list.proofs.groups.channels.Statement.{statement}
-use Rattle.step_list.proofs.groups.channels.Tie as tie
+use Rattle.step_list.proofs.groups.every_port.Statement.{statement}
+use Rattle.step_list.proofs.groups.every_port.Tie as tie
 
 abbrev Inv-loop : tie.InvT-loop
 Inv-loop b kind value ram₀ boot n₀ t8 t9 ram n = (length ram ≡ length ram₀) × (n ≤ 256)
@@ -45,8 +45,8 @@ same-length c = search needs
 returns : tie.Need-returns Inv-loop μ-loop
 returns c = search needs
 
-pub channels-spec : {M : Type 1} → statement M
-channels-spec =
+pub every-port-spec : {M : Type 1} → statement M
+every-port-spec =
     tie.close
     (tie.spec
     Inv-loop

@@ -11,12 +11,12 @@ use Rattle.lineset.specs.declared.Line.the-variants.{Nothing}
 use Rattle.lineset.specs.Lines.{member, firstOf}
 use Rattle.board.specs.declared.record.Board.{Board}
 use Rattle.board.specs.Record.{good}
-use Rattle.picture.specs.declared.search.Noted.{Noted}
+use Rattle.picture.specs.declared.search.NextDirty.{NextDirty}
 use Rattle.picture.specs.Pictures.{nextRefusal, nextAnswer}
 use Rattle.replies.specs.Replies.{nextReply, lineReply}
 use borrow.Author.Needs.{needs}
-use Rattle.replies.proofs.records.noted.Statement.{statement}
-use Rattle.replies.proofs.records.noted.Tie as tie
+use Rattle.replies.proofs.records.next_line.Statement.{statement}
+use Rattle.replies.proofs.records.next_line.Tie as tie
 
 most : (b : Board) (n : ℕ) → nextAnswer b (min n 256) ≡ nextAnswer b n
 unfolding nextAnswer nextRefusal
@@ -30,7 +30,7 @@ most b n = go (leb n 255) refl
         rw (m, e) (inner (good b))
       where
         inner : (g : Bool)
-            → _≡_ {A = Noted}
+            → _≡_ {A = NextDirty}
             (record { line = cond (eqb (cond g 3 1) 0) (firstOf (member (b .dirty)) 256 (256 - 256)) Nothing; refusal = cond g 3 1 })
             (record { line = cond (eqb (cond g 3 1) 0) (firstOf (member (b .dirty)) n (256 - n)) Nothing; refusal = cond g 3 1 })
         inner true = refl
@@ -70,8 +70,8 @@ returns-2 c =
     c .reply2 .ensures ∙ sym (ap (λ (l : Line). lineReply l (d .result .refusal)) (c .before .enum-told .given .1))
     ∙ ap nextReply (d .ensures ∙ ap (λ (k : ℕ). nextAnswer (s .args .b) k) (c .before .before .before .before .at-most-256 .ensures) ∙ most (s .args .b) (s .args .n))
 
-pub noted-spec : {M : Type 1} → statement M
-noted-spec =
+pub next-line-spec : {M : Type 1} → statement M
+next-line-spec =
     tie.close
     (tie.spec
     at-most-256-requires

@@ -1,4 +1,4 @@
--- `note_video` meets its contract: by whether the registers differ.
+-- `dirty_video` meets its contract: by whether the registers differ.
 -- Assumes nothing.
 use Prim.Native.Nat.{ℕ}
 use mathlib.Core.Path.{_≡_, sym, _∙_, ap}
@@ -10,12 +10,12 @@ use mir.Syntax.{w64}
 use Rattle.lineset.specs.declared.LineSet.{LineSet}
 use Rattle.lineset.specs.Lines.{setOf, member}
 use Rattle.lineset.proofs.Sets.{Words}
-use Rattle.board.proofs.Marking.{noted-none, noted-shown}
+use Rattle.board.proofs.Marking.{dirtied-none, dirtied-shown}
 use Rattle.board.specs.Record.{withDirty, shownSet}
 use Rattle.parts.specs.Parts.{videoDiffers}
 use borrow.Author.Needs.{needs}
-use Rattle.board.proofs.record.Board.note_video.Statement.{statement}
-use Rattle.board.proofs.record.Board.note_video.Tie as tie
+use Rattle.board.proofs.record.Board.dirty_video.Statement.{statement}
+use Rattle.board.proofs.record.Board.dirty_video.Tie as tie
 
 fits : (s : tie.Start) (j : ℕ) → Fits w64 (getD (s .args .self .dirty .words) j 0)
 fits s j = search needs
@@ -29,7 +29,7 @@ video-differs-requires c κs = search needs
 returns : tie.Need-returns
 returns c =
     let s = c .before .before in
-    sym (noted-none (s .args .self) (words s) (s .args .before) (sym (c .before .video-differs .ensures) ∙ not-true (c .before .video-differs .result) (c .if1 .taken)))
+    sym (dirtied-none (s .args .self) (words s) (s .args .before) (sym (c .before .video-differs .ensures) ∙ not-true (c .before .video-differs .result) (c .if1 .taken)))
 
 shown-requires : tie.Need-shown-requires
 shown-requires c κs = search needs
@@ -45,8 +45,8 @@ returns-2 c =
     sym (c .before .before .before .before .video-differs .ensures) ∙ not-false (c .before .before .before .before .video-differs .result) (c .before .before .before .if1 .left) in
     ap (λ (d : LineSet). withDirty (s .args .self) d)
     (c .union .ensures ∙ ap (λ (t : LineSet). setOf (λ (L : ℕ). member (s .args .self .dirty) L || member t L)) (c .before .shown .ensures))
-    ∙ noted-shown (s .args .self) (s .args .before) differs
+    ∙ dirtied-shown (s .args .self) (s .args .before) differs
 
-pub note-video-spec : {M : Type 1} → statement M
-note-video-spec =
+pub dirty-video-spec : {M : Type 1} → statement M
+dirty-video-spec =
     tie.close (tie.spec video-differs-requires returns shown-requires union-requires returns-2)
