@@ -1,4 +1,5 @@
-// The nine steps. A step takes the record and hands the next one on in its answer, and is lent RAM and boot stream.
+// A step of any kind: it takes the record and hands the next one on in its answer, and is lent RAM and boot stream. Both are
+// checked first, and once.
 ghost use mathlib.Core.Path.{_≡_};
 ghost use Rattle.answers.specs.Steps.{taken, takenRam, stepAnswer, stepRam};
 pub use answers::Answer;
@@ -35,7 +36,6 @@ fn take(b: Board, s: Step, ram: &mut [u8], boot: &[u8]) -> Taken
     }
 }
 
-// A step of any kind: record and buffers are checked first, and once.
 pub fn step(b: Board, s: Step, ram: &mut [u8], boot: &[u8]) -> Answer
     ensures { λ r. ⌜ (r ≡ stepAnswer b (now (ram .entry)) (now (boot .entry)) s) × (now (ram .exit) ≡ stepRam b (now (ram .entry)) (now (boot .entry)) s) ⌝ }
 {
