@@ -47,7 +47,7 @@ impl Board {
         ensures { λ r. ⌜ r ≡ inside (self .dirty) (shownSet (self .rate)) ⌝ }
     {
         let dirty = self.dirty;
-        dirty.within(LineSet::shown(self.rate))
+        lineops::within(dirty, LineSet::shown(self.rate))
     }
 
     // Whether every field is in range, no unshown line is dirty, and route NMI does not meet the disc line on.

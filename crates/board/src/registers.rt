@@ -103,7 +103,7 @@ impl Board {
         }
         let dirty = self.dirty;
         let mut b = self;
-        b.dirty = dirty.union(LineSet::shown(self.rate));
+        b.dirty = lineops::union(dirty, LineSet::shown(self.rate));
         b
     }
 
@@ -129,7 +129,10 @@ impl Board {
         let dirty = self.dirty;
         let touched = scanline::touched(ram, v.table, v.top, at);
         let mut b = self;
-        b.dirty = dirty.union(touched.intersection(LineSet::shown(self.rate)));
+        b.dirty = lineops::union(
+            dirty,
+            lineops::intersection(touched, LineSet::shown(self.rate)),
+        );
         b
     }
 }

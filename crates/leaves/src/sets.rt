@@ -21,24 +21,24 @@ fn some() -> LineSet {
 // A set and its count.
 pub(crate) fn counted(name: &[u8], s: LineSet) {
     set(name, s);
-    medium(b" count ", s.count());
+    medium(b" count ", linefind::count(s));
     text(b"\n");
 }
 
 pub(crate) fn sets() {
     let s = some();
     let shown = LineSet::shown(60);
-    let both = s.intersection(shown);
+    let both = lineops::intersection(s, shown);
     counted(b"empty ", LineSet::empty());
     counted(b"shown at 50 ", LineSet::shown(50));
     counted(b"shown at 60 ", shown);
     counted(b"shown at 55 ", LineSet::shown(55));
     counted(b"some ", s);
-    counted(b"some or shown at 60 ", s.union(shown));
+    counted(b"some or shown at 60 ", lineops::union(s, shown));
     counted(b"some and shown at 60 ", both);
-    flag(b"some within shown at 60: ", s.within(shown));
-    flag(b" at 50: ", s.within(LineSet::shown(50)));
-    flag(b" the common ones at 60: ", both.within(shown));
+    flag(b"some within shown at 60: ", lineops::within(s, shown));
+    flag(b" at 50: ", lineops::within(s, LineSet::shown(50)));
+    flag(b" the common ones at 60: ", lineops::within(both, shown));
     rates();
 }
 
@@ -55,7 +55,7 @@ fn rates() {
 fn line(s: LineSet, n: u16) {
     medium(b"line ", n);
     flag(b" has: ", s.contains(n));
-    match s.next(n) {
+    match linefind::next(s, n) {
         Line::At(at) => {
             medium(b" next: ", at);
         }

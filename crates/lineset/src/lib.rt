@@ -1,9 +1,9 @@
 // Sets of scan lines: 256 line numbers as four 64-bit words, line 0 in the lowest bit of the first.
 ghost use mathlib.Core.Path.{_≡_};
-ghost use mathlib.Core.Bool.{false, _&&_, _||_};
-ghost use Prim.Native.Nat.{ℕ, _-_};
+ghost use mathlib.Core.Bool.{false};
+ghost use Prim.Native.Nat.{ℕ};
 ghost use lib.Dec.{ltb};
-ghost use Rattle.lineset.specs.Lines.{member, setOf, countOf, firstOf, shownLines, inside};
+ghost use Rattle.lineset.specs.Lines.{member, setOf, shownLines};
 
 #[repr(C)]
 pub struct LineSet {
@@ -73,69 +73,5 @@ impl LineSet {
         }
         let i = (line / 64) as usize;
         (self.words[i] >> (line % 64)) % 2 == 1
-    }
-
-    pub fn union(self, other: LineSet) -> LineSet
-        ensures { λ r. ⌜ r ≡ setOf (λ (L : ℕ). member self L || member other L) ⌝ }
-    {
-        let a = self.words;
-        let b = other.words;
-        LineSet {
-            words: [a[0] | b[0], a[1] | b[1], a[2] | b[2], a[3] | b[3]],
-        }
-    }
-
-    // The lines that are in both sets.
-    pub fn intersection(self, other: LineSet) -> LineSet
-        ensures { λ r. ⌜ r ≡ setOf (λ (L : ℕ). member self L && member other L) ⌝ }
-    {
-        let a = self.words;
-        let b = other.words;
-        LineSet {
-            words: [a[0] & b[0], a[1] & b[1], a[2] & b[2], a[3] & b[3]],
-        }
-    }
-
-    // Whether every line of the set is in the other too.
-    pub fn within(self, other: LineSet) -> bool
-        ensures { λ r. ⌜ r ≡ inside self other ⌝ }
-    {
-        let a = self.words;
-        let b = other.words;
-        (a[0] | b[0] == b[0])
-            & ((a[1] | b[1] == b[1]) & ((a[2] | b[2] == b[2]) & (a[3] | b[3] == b[3])))
-    }
-
-    pub fn count(self) -> u16
-        ensures { λ r. ⌜ r ≡ countOf (member self) 0 256 ⌝ }
-    {
-        let a = u64::count_ones(self.words[0]) as u16;
-        let b = u64::count_ones(self.words[1]) as u16;
-        let c = u64::count_ones(self.words[2]) as u16;
-        let d = u64::count_ones(self.words[3]) as u16;
-        a + b + c + d
-    }
-
-    // The first line of the set at or after n; nothing for n over 255.
-    pub fn next(self, n: u16) -> Line
-        ensures { λ r. ⌜ r ≡ firstOf (member self) n (256 - n) ⌝ }
-    {
-        if n > 255 {
-            return Line::Nothing;
-        }
-        let mut i = (n / 64) as usize;
-        let w = self.words[i] >> (n % 64);
-        if w != 0 {
-            return Line::At(n + u64::trailing_zeros(w) as u16);
-        }
-        i += 1;
-        while i < 4 {
-            let w = self.words[i];
-            if w != 0 {
-                return Line::At((i as u16) * 64 + u64::trailing_zeros(w) as u16);
-            }
-            i += 1;
-        }
-        Line::Nothing
     }
 }

@@ -69,8 +69,8 @@ fn refreshed(run: Run, answer: Refreshed, whole: bool) -> Run {
     let left = answer.board.dirty;
     let floating = run.board.driven == 0;
     let right = (answer.refusal == 0)
-        & ((answer.count == before.count())
-            & ((left.count() == 0) & (answer.floating == floating)));
+        & ((answer.count == linefind::count(before))
+            & ((linefind::count(left) == 0) & (answer.floating == floating)));
     let board = answer.board;
     let mut r = run;
     r.board = board;
@@ -106,7 +106,7 @@ pub(crate) fn refresh(run: Run, ram: &[u8], picture: &mut [u8], full: &mut [u8])
 fn refused(run: Run, number: u8, board: Board, same_bytes: bool) -> Run {
     let before = run.board.dirty;
     let left = board.dirty;
-    let kept = (number == 2) & (same_bytes & (left.count() == before.count()));
+    let kept = (number == 2) & (same_bytes & (linefind::count(left) == linefind::count(before)));
     let mut r = run;
     r.board = board;
     r.refused = more(run.refused, true);

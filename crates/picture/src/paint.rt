@@ -60,7 +60,7 @@ fn paint_set(video: Video, ram: &[u8], lines: LineSet, picture: &mut [u8])
 {
     let mut n: u16 = 0;
     while n < 256 {
-        let Line::At(line) = lines.next(n) else {
+        let Line::At(line) = linefind::next(lines, n) else {
             return;
         };
         paint_line(video, ram, line as u8, picture);
@@ -130,7 +130,7 @@ pub fn refresh(b: Board, ram: &[u8], picture: &mut [u8]) -> Refreshed
     board.dirty = LineSet::empty();
     Refreshed {
         board,
-        count: dirty.count(),
+        count: linefind::count(dirty),
         floating: is_floating(b),
         refusal: 0,
     }

@@ -28,7 +28,7 @@ pub fn next_dirty(b: Board, n: u16) -> NextDirty
     }
     let dirty = b.dirty;
     NextDirty {
-        line: dirty.next(n),
+        line: linefind::next(dirty, n),
         refusal: 0,
     }
 }

@@ -105,6 +105,6 @@ pub fn answer(a: Answer) {
     times(b.clock, b.boot);
     small(b" route ", b.disc.route);
     let s = b.dirty;
-    medium(b" noted ", s.count());
+    medium(b" noted ", linefind::count(s));
     text(b"\n");
 }

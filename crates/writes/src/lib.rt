@@ -1,0 +1,75 @@
+// What writes and keyboard words take once record and buffers are found good.
+ghost use mathlib.Core.Path.{_≡_};
+ghost use lib.ListN.{set};
+ghost use Rattle.answers.specs.Steps.{taken, takenRam};
+use answers::Step;
+use answers::Taken;
+use board::Board;
+use paging::byte_at;
+use paging::keyboard_place;
+
+// A byte stored; past the end nothing is.
+fn put(ram: &mut [u8], at: usize, value: u8)
+    ensures { λ _. ⌜ now (ram .exit) ≡ set (now (ram .entry)) at value ⌝ }
+{
+    if at < ram.len() {
+        ram[at] = value;
+    }
+}
+
+pub fn take_write(b: Board, address: u16, value: u8, ram: &mut [u8], boot: &[u8]) -> Taken
+    ensures { λ r. ⌜ (r ≡ taken b (now (ram .entry)) (now (boot .entry)) (Step.Write address value)) × (now (ram .exit) ≡ takenRam b (now (ram .entry)) (now (boot .entry)) (Step.Write address value)) ⌝ }
+{
+    let p = b.paging;
+    let at = p.write_place(b.sizes, address);
+    // Lines are drawn from blocks 0 to 7: past them the record stays as it is, with no copy of it made.
+    if at >= 131072 {
+        put(ram, at, value);
+        return Taken {
+            board: b,
+            byte: 0,
+            forwarded: false,
+            refusal: 0,
+        };
+    }
+    // So it does for an equal byte.
+    if byte_at(ram, at) == value {
+        return Taken {
+            board: b,
+            byte: 0,
+            forwarded: false,
+            refusal: 0,
+        };
+    }
+    let stored = b.store(ram, at, value);
+    put(ram, at, value);
+    Taken {
+        board: stored,
+        byte: 0,
+        forwarded: false,
+        refusal: 0,
+    }
+}
+
+// A byte from the keyboard, at an offset from 0 to 15.
+pub fn take_key(b: Board, offset: u8, value: u8, ram: &mut [u8], boot: &[u8]) -> Taken
+    ensures { λ r. ⌜ (r ≡ taken b (now (ram .entry)) (now (boot .entry)) (Step.Key offset value)) × (now (ram .exit) ≡ takenRam b (now (ram .entry)) (now (boot .entry)) (Step.Key offset value)) ⌝ }
+{
+    if offset > 15 {
+        return Taken {
+            board: b,
+            byte: 0,
+            forwarded: false,
+            refusal: 3,
+        };
+    }
+    let at = keyboard_place(offset);
+    let keyed = b.store(ram, at, value);
+    put(ram, at, value);
+    Taken {
+        board: keyed,
+        byte: 0,
+        forwarded: false,
+        refusal: 0,
+    }
+}
