@@ -2,15 +2,16 @@
 ghost use mathlib.Core.Path.{_≡_};
 ghost use Rattle.answers.specs.Steps.{stepAnswer, stepRam};
 ghost use Rattle.power.specs.Power.{started};
-ghost use Rattle.replies.specs.Replies.{stepReply, startReply, drawReply, refreshReply, nextReply};
+ghost use Rattle.replies.specs.Replies.{stepReply, startReply};
+ghost use Rattle.redraws.specs.Redraws.{drawReply, refreshReply, nextReply};
 ghost use Rattle.packing.specs.Packing.{sizesOf, pagingOf};
 ghost use Rattle.kinds.specs.Kinds.{asked};
 ghost use Rattle.picture.specs.Pictures.{drawAnswer, drawPicture, refreshAnswer, refreshPicture, nextAnswer};
 use board::Board;
-use replies::drew;
-use replies::next_line;
+use redraws::drew;
+use redraws::next_line;
+use redraws::redrew;
 use replies::powered;
-use replies::redrew;
 use replies::replied;
 
 #[no_mangle]

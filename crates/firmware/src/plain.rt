@@ -5,12 +5,12 @@ ghost use Rattle.panel.specs.Roll.{rollOf};
 ghost use Rattle.panel.specs.Widen.{widenRefusal, widenedOut};
 ghost use Rattle.pointers.specs.Pointers.{pointerOf, madePointer};
 ghost use Rattle.packing.specs.Packing.{madeReply, pointerReply, reachReply, sizesOf, pagingOf};
-ghost use Rattle.replies.specs.Replies.{differenceReply};
+ghost use Rattle.redraws.specs.Redraws.{differenceReply};
 ghost use Rattle.compare.specs.Differences.{differenceAnswer};
 use packing::made;
 use packing::reached;
 use packing::read_back;
-use replies::differs;
+use redraws::differs;
 
 // One line of 90 bytes as 180, each pixel twice; the refusal number.
 #[no_mangle]

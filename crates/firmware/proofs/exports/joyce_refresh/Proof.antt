@@ -46,17 +46,17 @@ use denote.Triple.Table.{entered, cited}
 use denote.Triple.Walked.{says, needs, Stays, stay-ref, stay-none, stay-none-ref, stay-none-slice, gave-slice, walkOf, goes-ref, goes-none, goes-none-ref, goes-none-slice, goes-gave-slice, Walks, ends-at, walked, walk-meets}
 use denote.Exit.{yes}
 use Rattle.board.specs.declared.record.Board.{Board}
-use Rattle.replies.specs.declared.records.Returned.{Returned}
+use Rattle.redraws.specs.declared.Returned.{Returned}
 use Rattle.picture.specs.Pictures.{refreshAnswer, refreshPicture}
-use Rattle.replies.specs.Replies.{refreshReply}
+use Rattle.redraws.specs.Redraws.{refreshReply}
 use Rattle.board.proofs.record.Board as T
 use Rattle.board.proofs.record.Board.Laws as T′
-use Rattle.replies.proofs.records.Returned as S
-use Rattle.replies.proofs.records.Returned.Laws as S′
-use Rattle.replies.proofs.records.redrew as callee
-use Rattle.replies.proofs.records.redrew.Symbol as callee-def
-use Rattle.replies.proofs.records.redrew.Symbol.{name as #callee}
-use Rattle.replies.proofs.records.redrew.Met as callee-thm
+use Rattle.redraws.proofs.Returned as S
+use Rattle.redraws.proofs.Returned.Laws as S′
+use Rattle.redraws.proofs.redrew as callee
+use Rattle.redraws.proofs.redrew.Symbol as callee-def
+use Rattle.redraws.proofs.redrew.Symbol.{name as #callee}
+use Rattle.redraws.proofs.redrew.Met as callee-thm
 use Rattle.firmware.proofs.exports.joyce_refresh.Key.{name as #own}
 use Rattle.firmware.proofs.exports.joyce_refresh as f
 use Rattle.firmware.proofs.exports.joyce_refresh.Statement as stated
@@ -166,4 +166,4 @@ joyce-refresh-spec 𝓤 H 𝓜 𝓖 𝓡 =
     entered 𝓤 H (tripleOf 𝓤 H (𝓖 .A) f.signature (f.spec 𝓤 H (𝓖 .A) (𝓜 .mem) (𝓡 .run)))
     (tables 𝓤 H 𝓜 𝓡 code.env .C) (tables 𝓤 H 𝓜 𝓡 code.env .Λ) #own code.function (code.unfolded 𝓤 H 𝓜 𝓡)
     (meets 𝓤 H (𝓖 .A) (givenOf 𝓤 H 𝓜 𝓖) (𝓜 .mem) (𝓡 .run) (tablesOf 𝓤 H 𝓜 (tables 𝓤 H 𝓜 𝓡 code.env))
-    (cited 𝓤 H (Called 𝓤 H (𝓖 .A) (𝓜 .mem) (𝓡 .run)) 𝓜 𝓡 code.env #callee callee-def.routine code.calls-replies·records·redrew (callee-thm.met 𝓤 H 𝓜 𝓖 𝓡)))
+    (cited 𝓤 H (Called 𝓤 H (𝓖 .A) (𝓜 .mem) (𝓡 .run)) 𝓜 𝓡 code.env #callee callee-def.routine code.calls-redraws·redrew (callee-thm.met 𝓤 H 𝓜 𝓖 𝓡)))

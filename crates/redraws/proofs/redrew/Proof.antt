@@ -4,10 +4,10 @@ use Prim.Native.Nat.{_≤_}
 use native.Mathlib.Omega.{arith}
 use mathlib.Core.Bool.{Bool, true, false}
 use mir.Val.{boolByte}
-use Rattle.replies.specs.Replies.{refreshReply}
+use Rattle.redraws.specs.Redraws.{refreshReply}
 use borrow.Author.Needs.{needs}
-use Rattle.replies.proofs.records.redrew.Statement.{statement}
-use Rattle.replies.proofs.records.redrew.Tie as tie
+use Rattle.redraws.proofs.redrew.Statement.{statement}
+use Rattle.redraws.proofs.redrew.Tie as tie
 
 few : (t : Bool) → boolByte t ≤ 1
 few true = omega arith

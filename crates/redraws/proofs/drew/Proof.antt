@@ -5,10 +5,10 @@ use Prim.Native.Nat.{_≤_}
 use native.Mathlib.Omega.{arith}
 use mathlib.Core.Bool.{Bool, true, false}
 use mir.Val.{boolByte}
-use Rattle.replies.specs.Replies.{drawReply}
+use Rattle.redraws.specs.Redraws.{drawReply}
 use borrow.Author.Needs.{needs}
-use Rattle.replies.proofs.records.drew.Statement.{statement}
-use Rattle.replies.proofs.records.drew.Tie as tie
+use Rattle.redraws.proofs.drew.Statement.{statement}
+use Rattle.redraws.proofs.drew.Tie as tie
 
 few : (t : Bool) → boolByte t ≤ 1
 few true = omega arith

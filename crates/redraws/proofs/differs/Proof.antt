@@ -2,10 +2,10 @@
 -- Assumes nothing.
 use mathlib.Core.Path.{sym, _∙_, ap}
 use Rattle.compare.specs.declared.Place.{Place}
-use Rattle.replies.specs.Replies.{differenceReply, placeReply}
+use Rattle.redraws.specs.Redraws.{differenceReply, placeReply}
 use borrow.Author.Needs.{needs}
-use Rattle.replies.proofs.records.differs.Statement.{statement}
-use Rattle.replies.proofs.records.differs.Tie as tie
+use Rattle.redraws.proofs.differs.Statement.{statement}
+use Rattle.redraws.proofs.differs.Tie as tie
 
 first-difference-requires : tie.Need-first-difference-requires
 first-difference-requires c κs = search needs

@@ -13,10 +13,10 @@ use Rattle.board.specs.declared.record.Board.{Board}
 use Rattle.board.specs.Record.{good}
 use Rattle.picture.specs.declared.search.NextDirty.{NextDirty}
 use Rattle.picture.specs.Pictures.{nextRefusal, nextAnswer}
-use Rattle.replies.specs.Replies.{nextReply, lineReply}
+use Rattle.redraws.specs.Redraws.{nextReply, lineReply}
 use borrow.Author.Needs.{needs}
-use Rattle.replies.proofs.records.next_line.Statement.{statement}
-use Rattle.replies.proofs.records.next_line.Tie as tie
+use Rattle.redraws.proofs.next_line.Statement.{statement}
+use Rattle.redraws.proofs.next_line.Tie as tie
 
 most : (b : Board) (n : ℕ) → nextAnswer b (min n 256) ≡ nextAnswer b n
 unfolding nextAnswer nextRefusal
