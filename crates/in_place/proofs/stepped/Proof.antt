@@ -1,9 +1,9 @@
 -- What `step` answers, its record apart from the rest.
 -- Assumes nothing.
-use Rattle.firmware.specs.Place.{toldOf}
+use Rattle.in_place.specs.Place.{toldOf}
 use borrow.Author.Needs.{needs}
-use Rattle.firmware.proofs.place.stepped.Statement.{statement}
-use Rattle.firmware.proofs.place.stepped.Tie as tie
+use Rattle.in_place.proofs.stepped.Statement.{statement}
+use Rattle.in_place.proofs.stepped.Tie as tie
 
 step-requires : tie.Need-step-requires
 step-requires c κs = search needs

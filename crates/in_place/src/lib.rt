@@ -1,7 +1,7 @@
 // A step on a record that the caller keeps.
 ghost use mathlib.Core.Path.{_≡_};
 ghost use Rattle.answers.specs.Steps.{stepAnswer, stepRam};
-ghost use Rattle.firmware.specs.Place.{toldOf};
+ghost use Rattle.in_place.specs.Place.{toldOf};
 use board::Board;
 use steps::Step;
 

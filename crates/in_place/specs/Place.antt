@@ -1,6 +1,6 @@
 -- A step in place: its answer but for the record.
 use Rattle.answers.specs.declared.Answer.{Answer}
-use Rattle.firmware.specs.declared.place.Told.{Told}
+use Rattle.in_place.specs.declared.Told.{Told}
 
 -- an answer without its record
 unfoldable pub toldOf : Answer → Told

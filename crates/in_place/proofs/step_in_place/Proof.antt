@@ -46,27 +46,27 @@ use denote.Triple.Table.{entered, cited}
 use denote.Triple.Walked.{says, needs, Stays, stay-ref, stay-none, stay-none-ref, stay-none-slice, gave-slice, walkOf, goes-ref, goes-none, goes-none-ref, goes-none-slice, goes-gave-slice, Walks, ends-at, walked, walk-meets}
 use denote.Exit.{yes}
 use Rattle.board.specs.declared.record.Board.{Board}
-use Rattle.firmware.specs.declared.place.Moved.{Moved}
+use Rattle.in_place.specs.declared.Moved.{Moved}
 use Rattle.answers.specs.Steps.{stepAnswer, stepRam}
-use Rattle.firmware.specs.Place.{toldOf}
+use Rattle.in_place.specs.Place.{toldOf}
 use Rattle.board.proofs.record.Board as T
 use Rattle.board.proofs.record.Board.Laws as T′
 use Rattle.answers.specs.declared.Step.{Step}
 use Rattle.answers.proofs.Step as D-Step
 use Rattle.answers.proofs.Step.Laws as D-Step′
-use Rattle.firmware.specs.declared.place.Told.{Told}
-use Rattle.firmware.proofs.place.Told as D-Told
-use Rattle.firmware.proofs.place.Told.Laws as D-Told′
-use Rattle.firmware.proofs.place.Moved as S
-use Rattle.firmware.proofs.place.Moved.Laws as S′
-use Rattle.firmware.proofs.place.stepped as callee
-use Rattle.firmware.proofs.place.stepped.Symbol as callee-def
-use Rattle.firmware.proofs.place.stepped.Symbol.{name as #callee}
-use Rattle.firmware.proofs.place.stepped.Met as callee-thm
-use Rattle.firmware.proofs.place.step_in_place.Key.{name as #own}
-use Rattle.firmware.proofs.place.step_in_place as f
-use Rattle.firmware.proofs.place.step_in_place.Statement as stated
-use Rattle.firmware.proofs.place.step_in_place.Code as code
+use Rattle.in_place.specs.declared.Told.{Told}
+use Rattle.in_place.proofs.Told as D-Told
+use Rattle.in_place.proofs.Told.Laws as D-Told′
+use Rattle.in_place.proofs.Moved as S
+use Rattle.in_place.proofs.Moved.Laws as S′
+use Rattle.in_place.proofs.stepped as callee
+use Rattle.in_place.proofs.stepped.Symbol as callee-def
+use Rattle.in_place.proofs.stepped.Symbol.{name as #callee}
+use Rattle.in_place.proofs.stepped.Met as callee-thm
+use Rattle.in_place.proofs.step_in_place.Key.{name as #own}
+use Rattle.in_place.proofs.step_in_place as f
+use Rattle.in_place.proofs.step_in_place.Statement as stated
+use Rattle.in_place.proofs.step_in_place.Code as code
 
 abbrev stayed : Stays (f.ended .signature .params) (f.ended .kept)
 stayed = (stay-ref (0 ∷ []) tt (plain (λ _. T.the-row)), (stay-none (λ _. D-Step.the-row) yes, (gave-slice (1 ∷ []) tt (plain (λ _. u8)), (stay-none-slice (2 ∷ []) tt (plain (λ _. u8)) yes, tt))))
@@ -172,4 +172,4 @@ step-in-place-spec 𝓤 H 𝓜 𝓖 𝓡 =
     entered 𝓤 H (tripleOf 𝓤 H (𝓖 .A) f.signature (f.spec 𝓤 H (𝓖 .A) (𝓜 .mem) (𝓡 .run)))
     (tables 𝓤 H 𝓜 𝓡 code.env .C) (tables 𝓤 H 𝓜 𝓡 code.env .Λ) #own code.function (code.unfolded 𝓤 H 𝓜 𝓡)
     (meets 𝓤 H (𝓖 .A) (givenOf 𝓤 H 𝓜 𝓖) (𝓜 .mem) (𝓡 .run) (tablesOf 𝓤 H 𝓜 (tables 𝓤 H 𝓜 𝓡 code.env))
-    (cited 𝓤 H (Called 𝓤 H (𝓖 .A) (𝓜 .mem) (𝓡 .run)) 𝓜 𝓡 code.env #callee callee-def.routine code.calls-firmware·place·stepped (callee-thm.met 𝓤 H 𝓜 𝓖 𝓡)))
+    (cited 𝓤 H (Called 𝓤 H (𝓖 .A) (𝓜 .mem) (𝓡 .run)) 𝓜 𝓡 code.env #callee callee-def.routine code.calls-in-place·stepped (callee-thm.met 𝓤 H 𝓜 𝓖 𝓡)))
