@@ -1,19 +1,17 @@
--- Pictures: drawing, refreshing and the next dirty line. Document 01, "Scan lines".
+-- Pictures: drawing and refreshing. Document 01, "Scan lines".
 -- A picture is 256 lines of 90 bytes, 23,040 bytes, leftmost pixel in the top bit.
-use Prim.Native.Nat.{ℕ, suc, _-_, _*_, _/_, _%_}
+use Prim.Native.Nat.{ℕ, suc, _*_, _/_, _%_}
 use mathlib.Core.Bool.{Bool, false, cond, _&&_}
 use mathlib.Core.List.{List, [], _∷_}
-use lib.Dec.{eqb, ltb, leb}
+use lib.Dec.{eqb, ltb}
 use lib.ListN.{length}
-use Rattle.lineset.specs.declared.Line.the-variants.{Nothing}
-use Rattle.lineset.specs.Lines.{setOf, member, countOf, firstOf, shownLines}
+use Rattle.lineset.specs.Lines.{setOf, member, countOf, shownLines}
 use Rattle.scanline.specs.Drawing.{View, drawn}
 use Rattle.board.specs.declared.record.Board.{Board}
 use Rattle.parts.specs.declared.Video.{Video}
 use Rattle.board.specs.Record.{good, viewOf, withDirty}
 use Rattle.picture.specs.declared.paint.Drawn.{Drawn}
 use Rattle.picture.specs.declared.paint.Refreshed.{Refreshed}
-use Rattle.picture.specs.declared.search.NextDirty.{NextDirty}
 
 -- a list with f k in place of each element whose index k passes q; the first element has the index `from`
 unfoldable pub overFrom : (ℕ → Bool) → (ℕ → ℕ) → ℕ → List ℕ → List ℕ
@@ -64,13 +62,3 @@ refreshAnswer b ram picture =
 unfoldable pub refreshPicture : Board → List ℕ → List ℕ → List ℕ
 refreshPicture b ram picture =
     cond (eqb (pictureRefusal b (length ram) (length picture)) 0) (painted (member (b .dirty)) (viewOf b ram) picture) picture
-
--- the first dirty line at or after n: 1 the record is not good, 3 n is over 255
-unfoldable pub nextRefusal : Board → ℕ → ℕ
-nextRefusal b n = cond (good b) (cond (leb n 255) 0 3) 1
-
-unfoldable pub nextAnswer : Board → ℕ → NextDirty
-nextAnswer b n = record {
-  line = cond (eqb (nextRefusal b n) 0) (firstOf (member (b .dirty)) n (256 - n)) Nothing;
-  refusal = nextRefusal b n;
-}

@@ -6,7 +6,7 @@ use Rattle.lineset.specs.declared.Line.{Line}
 use Rattle.lineset.specs.declared.Line.the-variants.{At, Nothing}
 use Rattle.picture.specs.declared.paint.Drawn.{Drawn}
 use Rattle.picture.specs.declared.paint.Refreshed.{Refreshed}
-use Rattle.picture.specs.declared.search.NextDirty.{NextDirty}
+use Rattle.pending.specs.declared.NextDirty.{NextDirty}
 use Rattle.compare.specs.declared.Place.{Place}
 use Rattle.compare.specs.declared.Place.the-variants.{Pixel, Same}
 use Rattle.compare.specs.declared.Difference.{Difference}

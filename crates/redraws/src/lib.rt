@@ -2,7 +2,8 @@
 ghost use mathlib.Core.Path.{_≡_};
 ghost use Prim.Native.Nat.{min};
 ghost use Rattle.redraws.specs.Redraws.{drawReply, refreshReply, nextReply, differenceReply};
-ghost use Rattle.picture.specs.Pictures.{drawAnswer, drawPicture, refreshAnswer, refreshPicture, nextAnswer};
+ghost use Rattle.picture.specs.Pictures.{drawAnswer, drawPicture, refreshAnswer, refreshPicture};
+ghost use Rattle.pending.specs.Pending.{nextAnswer};
 ghost use Rattle.compare.specs.Differences.{differenceAnswer};
 use board::Board;
 use compare::Place;
@@ -49,7 +50,7 @@ fn at_most_256(n: u32) -> u16
 pub fn next_line(b: Board, n: u32) -> u64
     ensures { λ r. ⌜ r ≡ nextReply (nextAnswer b n) ⌝ }
 {
-    let a = picture::next_dirty(b, at_most_256(n));
+    let a = pending::next_dirty(b, at_most_256(n));
     let refusal = a.refusal;
     let line = a.line;
     match line {

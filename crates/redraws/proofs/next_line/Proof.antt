@@ -11,8 +11,8 @@ use Rattle.lineset.specs.declared.Line.the-variants.{Nothing}
 use Rattle.lineset.specs.Lines.{member, firstOf}
 use Rattle.board.specs.declared.record.Board.{Board}
 use Rattle.board.specs.Record.{good}
-use Rattle.picture.specs.declared.search.NextDirty.{NextDirty}
-use Rattle.picture.specs.Pictures.{nextRefusal, nextAnswer}
+use Rattle.pending.specs.declared.NextDirty.{NextDirty}
+use Rattle.pending.specs.Pending.{nextRefusal, nextAnswer}
 use Rattle.redraws.specs.Redraws.{nextReply, lineReply}
 use borrow.Author.Needs.{needs}
 use Rattle.redraws.proofs.next_line.Statement.{statement}

@@ -1,6 +1,6 @@
 // The next dirty line.
 ghost use mathlib.Core.Path.{_≡_};
-ghost use Rattle.picture.specs.Pictures.{nextAnswer};
+ghost use Rattle.pending.specs.Pending.{nextAnswer};
 use board::Board;
 use lineset::Line;
 

@@ -3,9 +3,9 @@
 use mathlib.Core.Path.{sym, _∙_}
 use borrow.Author.Needs.{needs}
 use borrow.Author.Tests.{le-leb, lt-leb, not-true, not-false}
-use Rattle.picture.specs.Pictures.{nextRefusal, nextAnswer}
-use Rattle.picture.proofs.search.next_dirty.Statement.{statement}
-use Rattle.picture.proofs.search.next_dirty.Tie as tie
+use Rattle.pending.specs.Pending.{nextRefusal, nextAnswer}
+use Rattle.pending.proofs.next_dirty.Statement.{statement}
+use Rattle.pending.proofs.next_dirty.Tie as tie
 
 good-requires : tie.Need-good-requires
 good-requires c κs = search needs
