@@ -40,7 +40,7 @@ choose false n = go (eqb n 0) refl
     go false e = refl
 
 -- a place past 1,024 is past the end of any stream that is lent
-past-end : (n at : ℕ) → n ≤ 1024 → (leb n at || leb 1024 at) ≡ leb n at
+pub past-end : (n at : ℕ) → n ≤ 1024 → (leb n at || leb 1024 at) ≡ leb n at
 past-end n at l = go (leb n at) refl
   where
     go : (t : Bool) → leb n at ≡ t → (t || leb 1024 at) ≡ t
