@@ -29,16 +29,16 @@ pub fn ask(kind: u32, number: u32, value: u32) -> Step
         return Step::Key(16, 0);
     }
     let address = (number % 65536) as u16;
-    let channel = (number % 256) as u8;
+    let low = (number % 256) as u8;
     let byte = (value % 256) as u8;
     match kind {
         1 => Step::Fetch(address),
         2 => Step::Read(address),
         3 => Step::Write(address, byte),
-        4 => Step::PortIn(channel),
-        5 => Step::PortOut(channel, byte),
+        4 => Step::PortIn(low),
+        5 => Step::PortOut(low, byte),
         6 => Step::Scan,
-        7 => Step::Key(channel, byte),
+        7 => Step::Key(low, byte),
         8 => Step::DiscLine(value == 1),
         9 => Step::ExternalLine(value == 1),
         _ => Step::Key(16, 0),

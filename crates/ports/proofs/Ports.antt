@@ -16,9 +16,9 @@ weighed true n = omega arith
 weighed false n = omega arith
 
 -- the host takes no channel from F0h to FBh
-pub board-channel : (p : ℕ) → 0xF0 ≤ p → p ≤ 0xFB → forwardedOut p ≡ false
+pub board-port : (p : ℕ) → 0xF0 ≤ p → p ≤ 0xFB → forwardedOut p ≡ false
 unfolding forwardedOut
-board-channel p lo hi =
+board-port p lo hi =
     rw (
       ne-eqb p 0x01 (λ (z : p ≡ 0x01). omega arith),
       le-leb 0x80 p (omega arith),
@@ -29,11 +29,11 @@ board-channel p lo hi =
 
 pub register-taken : (p : ℕ) → 0xF0 ≤ p → p ≤ 0xF8 → takenOut p ≡ true
 unfolding takenOut
-register-taken p lo hi = rw (board-channel p lo (omega arith), le-leb 0xF0 p lo, le-leb p 0xF8 hi)
+register-taken p lo hi = rw (board-port p lo (omega arith), le-leb 0xF0 p lo, le-leb p 0xF8 hi)
 
 pub idle-taken : (p : ℕ) → 0xFA ≤ p → p ≤ 0xFB → takenOut p ≡ true
 unfolding takenOut
-idle-taken p lo hi = rw (board-channel p (omega arith) hi, le-leb 0xF0 p (omega arith), lt-leb p 0xF8 (omega arith)) (go (eqb p 0xFA) refl)
+idle-taken p lo hi = rw (board-port p (omega arith) hi, le-leb 0xF0 p (omega arith), lt-leb p 0xF8 (omega arith)) (go (eqb p 0xFA) refl)
   where
     go : (t : Bool) → eqb p 0xFA ≡ t → (t || eqb p 0xFB) ≡ true
     go true e = refl
@@ -82,7 +82,7 @@ written-host b p v e = go (leb 0xF0 p) refl (leb p 0xFB) refl
   where
     go : (t : Bool) → leb 0xF0 p ≡ t → (u : Bool) → leb p 0xFB ≡ u → b ≡ written b p v
     go false f u g = written-below b p v (leb-false 0xF0 p f)
-    go true f true g = absurd (true≢false (sym e ∙ board-channel p (leb-true 0xF0 p f) (leb-true p 0xFB g)))
+    go true f true g = absurd (true≢false (sym e ∙ board-port p (leb-true 0xF0 p f) (leb-true p 0xFB g)))
     go true f false g = let l = leb-false p 0xFB g in written-past b p v (omega arith)
 
 -- the channels out that the host takes, and the others

@@ -14,7 +14,7 @@ use Rattle.power.specs.Power.{freshBoard}
 use Rattle.board.specs.Registers.{forwardedIn, command, pagingOut, videoOut, clockTold, bootTold, discTold, drivenTold, bleeperTold, written}
 use Rattle.answers.specs.declared.Step.the-variants.{Fetch, PortIn}
 use Rattle.answers.specs.Steps.{moved, ownRefusal}
-use Rattle.ports.proofs.Ports.{board-channel, in-forwarded}
+use Rattle.ports.proofs.Ports.{board-port, in-forwarded}
 use Rattle.picture.specs.Pictures.{pictureRefusal, drawPicture, refreshPicture, shown}
 use Rattle.runs.proofs.Mirroring.{past-end}
 
@@ -55,7 +55,7 @@ unfolding moved
 passed-on-in b port e = go (eqb port 0xF4) refl
   where
     not-f4 : port ≡ 0xF4 → ⊥
-    not-f4 z = true≢false (sym e ∙ in-forwarded port (λ (y : port ≡ 0x00). omega arith) ∙ board-channel port (omega arith) (omega arith))
+    not-f4 z = true≢false (sym e ∙ in-forwarded port (λ (y : port ≡ 0x00). omega arith) ∙ board-port port (omega arith) (omega arith))
 
     go : (t : Bool) → eqb port 0xF4 ≡ t → moved b (PortIn port) ≡ b
     go true f = absurd (not-f4 (eqb-true port 0xF4 f))

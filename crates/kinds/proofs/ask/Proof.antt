@@ -20,8 +20,8 @@ returns c =
 cast-address : tie.Need-cast-address
 cast-address c = search needs
 
-cast-channel : tie.Need-cast-channel
-cast-channel c = search needs
+cast-low : tie.Need-cast-low
+cast-low c = search needs
 
 cast-byte : tie.Need-cast-byte
 cast-byte c = search needs
@@ -121,7 +121,7 @@ ask-spec =
     takes-requires
     returns
     cast-address
-    cast-channel
+    cast-low
     cast-byte
     returns-2
     returns-3

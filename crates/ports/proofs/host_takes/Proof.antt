@@ -4,7 +4,7 @@ use borrow.Author.Needs.{needs}
 use mathlib.Core.Path.{sym}
 use native.Mathlib.Omega.{arith}
 use Rattle.board.specs.Registers.{forwardedOut}
-use Rattle.ports.proofs.Ports.{forwarded-expansion, forwarded-printer, forwarded-low, forwarded-top, board-channel}
+use Rattle.ports.proofs.Ports.{forwarded-expansion, forwarded-printer, forwarded-low, forwarded-top, board-port}
 use Rattle.ports.proofs.host_takes.Statement.{statement}
 use Rattle.ports.proofs.host_takes.Tie as tie
 
@@ -22,7 +22,7 @@ returns-4 : tie.Need-returns-4
 returns-4 c = sym (forwarded-low (c .before .before .args .port) (c .if1 .taken) (c .before .match .rest .1))
 
 returns-5 : tie.Need-returns-5
-returns-5 c = let p = c .before .before .before .before .args .port in sym (board-channel p (omega arith) (omega arith))
+returns-5 c = let p = c .before .before .before .before .args .port in sym (board-port p (omega arith) (omega arith))
 
 returns-6 : tie.Need-returns-6
 returns-6 c = sym (forwarded-top (c .before .before .before .before .before .args .port) (c .if4 .left))

@@ -15,7 +15,7 @@ use Rattle.board.proofs.Marking.{marked-dirtied}
 use Rattle.answers.specs.declared.Step.the-variants.{PortOut}
 use Rattle.answers.specs.Steps.{moved, stored, stepByte, forwardedStep, ownRefusal, stepBoard, accepts, refuses, taken}
 use Rattle.answers.proofs.Answering.{plain-own, own-accepted, own-refused}
-use Rattle.ports.proofs.Ports.{host-taken, written-host, written-past, board-channel, register-taken, idle-taken, refused-below, refused-between, refused-above}
+use Rattle.ports.proofs.Ports.{host-taken, written-host, written-past, board-port, register-taken, idle-taken, refused-below, refused-between, refused-above}
 use borrow.Author.Needs.{needs}
 use Rattle.ports.proofs.take_port_out.Statement.{statement}
 use Rattle.ports.proofs.take_port_out.Tie as tie
@@ -67,14 +67,14 @@ returns-2 c =
     let hi : s .args .port ≤ 0xF8 = search needs in
     let st : stepBoard (s .args .b) (now (s .args .ram)) (PortOut (s .args .port) (s .args .value)) ≡ c .out .result =
     marked-dirtied (now (s .args .ram)) (s .args .b) (written (s .args .b) (s .args .port) (s .args .value)) (unfold written in refl) (unfold written in refl) ∙ sym (c .out .ensures) in
-    rw (← st, ← board-channel (s .args .port) lo (omega arith)) (own-accepted (s .args .b) (now (s .args .ram)) (now (s .args .boot)) (PortOut (s .args .port) (s .args .value)) (rw (register-taken (s .args .port) lo hi)))
+    rw (← st, ← board-port (s .args .port) lo (omega arith)) (own-accepted (s .args .b) (now (s .args .ram)) (now (s .args .boot)) (PortOut (s .args .port) (s .args .value)) (rw (register-taken (s .args .port) lo hi)))
 
 returns-3 : tie.Need-returns-3
 returns-3 c =
     let s = c .before .before .before .before .before .before .before .before in
     let lo : 0xFA ≤ s .args .port = search needs in
     let hi : s .args .port ≤ 0xFB = search needs in
-    idle s false (idle-taken (s .args .port) lo hi) (written-past (s .args .b) (s .args .port) (s .args .value) (omega arith)) (sym (board-channel (s .args .port) (omega arith) hi))
+    idle s false (idle-taken (s .args .port) lo hi) (written-past (s .args .b) (s .args .port) (s .args .value) (omega arith)) (sym (board-port (s .args .port) (omega arith) hi))
 
 returns-4 : tie.Need-returns-4
 returns-4 c =
