@@ -64,7 +64,7 @@ first-same p from (suc n) h =
     let z : p from ≡ false = rw add-zero at (h zero (omega arith)) in
     rw z (first-same p (suc from) n (λ i m. rw (suc-add, ← add-suc) (h (suc i) (omega arith))))
 
--- ---- 90 bytes at once
+-- ---- many bytes at once
 
 or-zero : (a b : ℕ) → bitOr a b ≡ 0 → (a ≡ 0) × (b ≡ 0)
 or-zero a b e = (omega (arith, or-add-and a b, and-le-r a b), omega (arith, or-add-and a b, and-le-l a b))
@@ -121,16 +121,16 @@ module _ (a b : List ℕ) where
       go true q = let z : m ≡ n = eqb-true m n q in rw z e
       go false q = let z : (m ≡ n → ⊥) = eqb-false m n q in h m (omega arith)
 
-  -- the next byte of a line, and the next line
+  -- the next byte of a line, the next line, and the next eight
   pub alike-next : (L i : ℕ) → Alike a b (L * 90 + i) → getD a (L * 90 + i) 0 ≡ getD b (L * 90 + i) 0 → Alike a b (L * 90 + (i + 1))
   alike-next L i h e = let z : L * 90 + (i + 1) ≡ L * 90 + i + 1 = omega arith in rw z (alike-more (L * 90 + i) h e)
 
   pub alike-line : (L i : ℕ) → i ≡ 90 → Alike a b (L * 90 + i) → Alike a b ((L + 1) * 90)
   alike-line L i e h = let z : (L + 1) * 90 ≡ L * 90 + i = omega arith in rw z h
 
-  pub alike-whole : (L : ℕ) → Alike a b (L * 90) → AlikeFrom a b (L * 90) 90 → Alike a b ((L + 1) * 90)
+  pub alike-eight : (L : ℕ) → Alike a b (L * 90) → AlikeFrom a b (L * 90) 720 → Alike a b ((L + 8) * 90)
   unfolding Alike
-  alike-whole L h l m s = go (ltb m (L * 90)) refl
+  alike-eight L h l m s = go (ltb m (L * 90)) refl
     where
       go : (t : Bool) → ltb m (L * 90) ≡ t → getD a m 0 ≡ getD b m 0
       go true q = h m (ltb-true m (L * 90) q)

@@ -3,7 +3,7 @@
 use Prim.Native.Nat.{_+_, _-_, _*_, _≤_}
 use native.Mathlib.Nat.{add-zero}
 use native.Mathlib.Omega.{arith}
-use Rattle.compare.proofs.Differences.{Alike, alike-none, alike-next, alike-line, alike-whole, place-same, place-found}
+use Rattle.compare.proofs.Differences.{Alike, alike-none, alike-next, alike-line, alike-eight, place-same, place-found}
 use Rattle.compare.proofs.unequal_place.Statement.{statement}
 use Rattle.compare.proofs.unequal_place.Tie as tie
 
@@ -25,11 +25,11 @@ lines-holds c = (omega arith, alike-none _ _)
 returns : tie.Need-returns Inv-loop μ-loop Inv-lines μ-lines
 returns c = place-same _ _ (rw (c .if1 .taken) at (c .before .lines .inv .1))
 
-mul-same-line : tie.Need-mul-same-line Inv-loop μ-loop Inv-lines μ-lines
-mul-same-line c = omega arith
+mul-same-lines : tie.Need-mul-same-lines Inv-loop μ-loop Inv-lines μ-lines
+mul-same-lines c = omega arith
 
-same-line-requires : tie.Need-same-line-requires Inv-loop μ-loop Inv-lines μ-lines
-same-line-requires c κs = omega arith
+same-lines-requires : tie.Need-same-lines-requires Inv-loop μ-loop Inv-lines μ-lines
+same-lines-requires c κs = omega arith
 
 add-line : tie.Need-add-line Inv-loop μ-loop Inv-lines μ-lines
 add-line c = omega arith
@@ -38,10 +38,10 @@ lines-less : tie.Need-lines-less Inv-loop μ-loop Inv-lines μ-lines
 lines-less c = omega arith
 
 lines-again : tie.Need-lines-again Inv-loop μ-loop Inv-lines μ-lines
-lines-again c = (omega arith, alike-whole _ _ _ (c .before .before .before .lines .inv .1) (c .before .same-line .ensures (c .if2 .taken)))
+lines-again c = (omega arith, alike-eight _ _ _ (c .before .before .before .before .lines .inv .1) (c .before .same-lines .ensures (c .if3 .taken)))
 
 loop-holds : tie.Need-loop-holds Inv-loop μ-loop Inv-lines μ-lines
-loop-holds c = (omega arith, rw add-zero (c .before .before .before .lines .inv .1))
+loop-holds c = (omega arith, rw add-zero (c .before .before .lines .inv .1))
 
 mul-at : tie.Need-mul-at Inv-loop μ-loop Inv-lines μ-lines
 mul-at c = omega arith
@@ -49,11 +49,11 @@ mul-at c = omega arith
 add-at : tie.Need-add-at Inv-loop μ-loop Inv-lines μ-lines
 add-at c = omega arith
 
-shared-slice-read-if3 : tie.Need-shared-slice-read-if3 Inv-loop μ-loop Inv-lines μ-lines
-shared-slice-read-if3 c = omega arith
+shared-slice-read-if4 : tie.Need-shared-slice-read-if4 Inv-loop μ-loop Inv-lines μ-lines
+shared-slice-read-if4 c = omega arith
 
-shared-slice-read-if3-2 : tie.Need-shared-slice-read-if3-2 Inv-loop μ-loop Inv-lines μ-lines
-shared-slice-read-if3-2 c = omega arith
+shared-slice-read-if4-2 : tie.Need-shared-slice-read-if4-2 Inv-loop μ-loop Inv-lines μ-lines
+shared-slice-read-if4-2 c = omega arith
 
 add-i : tie.Need-add-i Inv-loop μ-loop Inv-lines μ-lines
 add-i c = omega arith
@@ -63,7 +63,7 @@ loop-less c = omega arith
 
 loop-again : tie.Need-loop-again Inv-loop μ-loop Inv-lines μ-lines
 loop-again c =
-    (omega arith, alike-next _ _ _ _ (c .before .before .before .before .loop .inv .1) (c .if3 .left))
+    (omega arith, alike-next _ _ _ _ (c .before .before .before .before .loop .inv .1) (c .if4 .left))
 
 add-line-2 : tie.Need-add-line-2 Inv-loop μ-loop Inv-lines μ-lines
 add-line-2 c = omega arith
@@ -89,19 +89,19 @@ shared-slice-read-unequal-pixel-2 :
 shared-slice-read-unequal-pixel-2 c = omega arith
 
 unequal-pixel-requires : tie.Need-unequal-pixel-requires Inv-loop μ-loop Inv-lines μ-lines
-unequal-pixel-requires c κs = c .before .before .if3 .taken
+unequal-pixel-requires c κs = c .before .before .if4 .taken
 
-cast-t19 : tie.Need-cast-t19 Inv-loop μ-loop Inv-lines μ-lines
-cast-t19 c = omega arith
+cast-t20 : tie.Need-cast-t20 Inv-loop μ-loop Inv-lines μ-lines
+cast-t20 c = omega arith
 
-cast-t22 : tie.Need-cast-t22 Inv-loop μ-loop Inv-lines μ-lines
-cast-t22 c = omega arith
+cast-t23 : tie.Need-cast-t23 Inv-loop μ-loop Inv-lines μ-lines
+cast-t23 c = omega arith
 
-mul-t23 : tie.Need-mul-t23 Inv-loop μ-loop Inv-lines μ-lines
-mul-t23 c = omega arith
+mul-t24 : tie.Need-mul-t24 Inv-loop μ-loop Inv-lines μ-lines
+mul-t24 c = omega arith
 
-add-t24 : tie.Need-add-t24 Inv-loop μ-loop Inv-lines μ-lines
-add-t24 c = omega arith
+add-t25 : tie.Need-add-t25 Inv-loop μ-loop Inv-lines μ-lines
+add-t25 c = omega arith
 
 returns-2 : tie.Need-returns-2 Inv-loop μ-loop Inv-lines μ-lines
 returns-2 c =
@@ -119,16 +119,16 @@ unequal-place-spec =
     μ-lines
     lines-holds
     returns
-    mul-same-line
-    same-line-requires
+    mul-same-lines
+    same-lines-requires
     add-line
     lines-less
     lines-again
     loop-holds
     mul-at
     add-at
-    shared-slice-read-if3
-    shared-slice-read-if3-2
+    shared-slice-read-if4
+    shared-slice-read-if4-2
     add-i
     loop-less
     loop-again
@@ -140,8 +140,8 @@ unequal-place-spec =
     shared-slice-read-unequal-pixel
     shared-slice-read-unequal-pixel-2
     unequal-pixel-requires
-    cast-t19
-    cast-t22
-    mul-t23
-    add-t24
+    cast-t20
+    cast-t23
+    mul-t24
+    add-t25
     returns-2)

@@ -1,4 +1,4 @@
--- `same_line` tells of 90 bytes. The loop's invariant: if no bit differed, the first i are the same.
+-- `same_lines` tells of 720 bytes. The loop's invariant: if no bit differed, the first i are the same.
 -- Assumes nothing.
 use Prim.Native.Nat.{_-_, _≤_}
 use native.Mathlib.Omega.{arith}
@@ -6,14 +6,14 @@ use mathlib.Core.Path.{_≡_}
 use borrow.Author.Tests.{eqb-true}
 use Rattle.compare.specs.Differences.{AlikeFrom}
 use Rattle.compare.proofs.Differences.{from-next}
-use Rattle.compare.proofs.same_line.Statement.{statement}
-use Rattle.compare.proofs.same_line.Tie as tie
+use Rattle.compare.proofs.same_lines.Statement.{statement}
+use Rattle.compare.proofs.same_lines.Tie as tie
 
 abbrev Inv-loop : tie.InvT-loop
-Inv-loop a b first found₀ i₀ found i = (i ≤ 90) × (found ≡ 0 → AlikeFrom a b first i)
+Inv-loop a b first found₀ i₀ found i = (i ≤ 720) × (found ≡ 0 → AlikeFrom a b first i)
 
 abbrev μ-loop : tie.MeasureT-loop
-μ-loop a b first found₀ i₀ found i = 90 - i
+μ-loop a b first found₀ i₀ found i = 720 - i
 
 loop-holds : tie.Need-loop-holds Inv-loop μ-loop
 loop-holds c = (omega arith, λ z m l. absurd (omega arith))
@@ -40,11 +40,11 @@ loop-again c =
 
 returns : tie.Need-returns Inv-loop μ-loop
 returns c =
-    let e : c .before .loop .i ≡ 90 = omega arith in
+    let e : c .before .loop .i ≡ 720 = omega arith in
     λ t. rw e at (c .before .loop .inv .1 (eqb-true (c .before .loop .found) 0 t))
 
-pub same-line-spec : {M : Type 1} → statement M
-same-line-spec =
+pub same-lines-spec : {M : Type 1} → statement M
+same-lines-spec =
     tie.close
     (tie.spec
     Inv-loop
