@@ -1,12 +1,7 @@
 //! The proved library behind its C interface.
-//!
-//! Each wrapper lends slices for the length of one call. The library keeps no pointer, takes any
-//! bytes and lengths, and writes only where it is lent something to write to.
 
-use crate::machine::{Machine, Numbers};
-use crate::model::{Ask, PowerOn};
+use crate::interface::Interface;
 use crate::record::Board;
-use crate::reply::Reply;
 
 extern "C" {
     fn joyce_power_on(
@@ -44,76 +39,17 @@ extern "C" {
 }
 
 /// The linked library.
-pub struct Library;
-
-impl Machine for Library {
-    fn power_on(&self, board: &mut Board, on: &PowerOn) -> Reply {
-        let [f0, f1, f2, f3] = on.maps;
-        // SAFETY: the board is a live record of the layout of the C interface.
-        Reply(unsafe {
-            joyce_power_on(board, on.sizes.internal, on.sizes.total, on.rate, f0, f1, f2, f3, on.lock, on.table, on.top)
-        })
-    }
-
-    fn step(&self, board: &mut Board, step: Numbers, ram: &mut [u8], stream: &[u8]) -> Reply {
-        // SAFETY: record and slices live through the call and do not overlap.
-        Reply(unsafe {
-            joyce_step(
-                board,
-                step.kind,
-                step.number,
-                step.value,
-                ram.as_mut_ptr(),
-                ram.len(),
-                stream.as_ptr(),
-                stream.len(),
-            )
-        })
-    }
-
-    fn draw(&self, board: &Board, ram: &[u8], picture: &mut [u8]) -> Reply {
-        // SAFETY: as for a step; the record is only read.
-        Reply(unsafe { joyce_draw(board, ram.as_ptr(), ram.len(), picture.as_mut_ptr(), picture.len()) })
-    }
-
-    fn refresh(&self, board: &mut Board, ram: &[u8], picture: &mut [u8]) -> Reply {
-        // SAFETY: as for a step.
-        Reply(unsafe { joyce_refresh(board, ram.as_ptr(), ram.len(), picture.as_mut_ptr(), picture.len()) })
-    }
-
-    fn next_noted(&self, board: &Board, n: u32) -> Reply {
-        // SAFETY: the record is only read.
-        Reply(unsafe { joyce_next_noted(board, n) })
-    }
-
-    fn first_difference(&self, a: &[u8], b: &[u8]) -> Reply {
-        // SAFETY: both slices are only read.
-        Reply(unsafe { joyce_first_difference(a.as_ptr(), a.len(), b.as_ptr(), b.len()) })
-    }
-
-    fn widen(&self, line: &[u8], out: &mut [u8]) -> u8 {
-        // SAFETY: the slices live through the call and do not overlap.
-        unsafe { joyce_widen(line.as_ptr(), line.len(), out.as_mut_ptr(), out.len()) }
-    }
-
-    fn make_pointer(&self, block: u32, start: u32) -> Reply {
-        // SAFETY: plain numbers.
-        Reply(unsafe { joyce_make_pointer(block, start) })
-    }
-
-    fn read_pointer(&self, word: u16) -> Reply {
-        // SAFETY: plain numbers.
-        Reply(unsafe { joyce_read_pointer(word) })
-    }
-
-    fn roll(&self, old: u8, new: u8) -> i8 {
-        // SAFETY: plain numbers.
-        unsafe { joyce_roll(old, new) }
-    }
-
-    fn reach(&self, ask: &Ask) -> Reply {
-        let [f0, f1, f2, f3] = ask.paging.maps;
-        // SAFETY: plain numbers.
-        Reply(unsafe { joyce_reach(ask.sizes.internal, ask.sizes.total, f0, f1, f2, f3, ask.paging.lock, ask.address) })
-    }
-}
+#[allow(non_upper_case_globals)]
+pub const Library: Interface = Interface {
+    power_on: joyce_power_on,
+    step: joyce_step,
+    draw: joyce_draw,
+    refresh: joyce_refresh,
+    next_noted: joyce_next_noted,
+    first_difference: joyce_first_difference,
+    widen: joyce_widen,
+    make_pointer: joyce_make_pointer,
+    read_pointer: joyce_read_pointer,
+    roll: joyce_roll,
+    reach: joyce_reach,
+};

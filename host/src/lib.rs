@@ -7,8 +7,10 @@ pub mod ffi;
 #[path = "standin.rs"]
 pub mod ffi;
 pub mod fuzz;
+pub mod interface;
 pub mod machine;
 pub mod model;
+pub mod model_c;
 pub mod record;
 pub mod reply;
 

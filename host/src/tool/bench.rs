@@ -1,10 +1,12 @@
-//! `joyce bench`: each operation through the library beside the model, on the same inputs.
+//! `joyce bench`: each operation of the library beside the model's, both through the C interface, on the same inputs. A last
+//! column has the model called from Rust itself, where it may be inlined: what the interface costs.
 
 use super::args::Args;
 use super::out;
 use super::timing::{black_box, keep, nanoseconds};
 use joyce::machine::{Machine, Model, Numbers};
 use joyce::model::{Ask, PowerOn};
+use joyce::model_c::MODEL;
 use joyce::record::{Board, Lines, Paging, Sizes, BLOCK, PICTURE};
 use std::time::Duration;
 
@@ -52,9 +54,10 @@ struct Bench<'m> {
 }
 
 impl Bench<'_> {
-    /// Times the work on both machines, each from a copy of the same bed.
+    /// Times the work on each machine from a copy of the same bed.
     fn row(&self, name: &str, bed: &Bed, work: impl Fn(&dyn Machine, &mut Bed, u64)) -> Timed {
         let time = |machine: &dyn Machine| {
+            let machine = black_box(machine);
             let mut bed = bed.clone();
             let mut turn = 0;
             nanoseconds(self.budget, || {
@@ -62,9 +65,9 @@ impl Bench<'_> {
                 work(machine, &mut bed, turn);
             })
         };
-        let (theirs, ours) = (time(self.library), time(&Model));
-        out::line(&format!("{name:<46}{theirs:>12.1}{ours:>12.1}{:>9.2}", theirs / ours))?;
-        Ok(theirs)
+        let (library, model, inlined) = (time(self.library), time(&MODEL), time(&Model));
+        out::line(&format!("{name:<44}{library:>11.1}{model:>11.1}{:>8.2}{inlined:>11.1}", library / model))?;
+        Ok(library)
     }
 
     /// Times one step, made over and over; `step` may depend on the turn.
@@ -84,7 +87,7 @@ pub fn run(library: &dyn Machine, arguments: &[String]) -> Result<(), String> {
         return Err("--ms: 1 to 10000".to_string());
     }
     let bench = Bench { library, budget: Duration::from_millis(ms) };
-    out::line(&format!("{:<46}{:>12}{:>12}{:>9}", "nanoseconds a call", "library", "model", "ratio"))?;
+    out::line(&format!("{:<44}{:>11}{:>11}{:>8}{:>11}", "nanoseconds a call", "library", "model", "ratio", "inlined"))?;
     steps(&bench)?;
     stores(&bench)?;
     pictures(&bench)?;

@@ -1,0 +1,91 @@
+//! The functions of the C interface as a table, and safe calls of them: the library's and, to be timed beside them, the model's.
+//!
+//! Each call lends slices for its own length. No function keeps a pointer; each takes any bytes and
+//! lengths, and writes only where it is lent something to write to.
+
+use crate::machine::{Machine, Numbers};
+use crate::model::{Ask, PowerOn};
+use crate::record::Board;
+use crate::reply::Reply;
+
+type Step = unsafe extern "C" fn(*mut Board, u32, u32, u32, *mut u8, usize, *const u8, usize) -> u64;
+type Bytes10 = unsafe extern "C" fn(*mut Board, u8, u8, u8, u8, u8, u8, u8, u8, u8, u8) -> u64;
+
+pub struct Interface {
+    pub power_on: Bytes10,
+    pub step: Step,
+    pub draw: unsafe extern "C" fn(*const Board, *const u8, usize, *mut u8, usize) -> u64,
+    pub refresh: unsafe extern "C" fn(*mut Board, *const u8, usize, *mut u8, usize) -> u64,
+    pub next_noted: unsafe extern "C" fn(*const Board, u32) -> u64,
+    pub first_difference: unsafe extern "C" fn(*const u8, usize, *const u8, usize) -> u64,
+    pub widen: unsafe extern "C" fn(*const u8, usize, *mut u8, usize) -> u8,
+    pub make_pointer: unsafe extern "C" fn(u32, u32) -> u64,
+    pub read_pointer: unsafe extern "C" fn(u16) -> u64,
+    pub roll: unsafe extern "C" fn(u8, u8) -> i8,
+    pub reach: unsafe extern "C" fn(u8, u8, u8, u8, u8, u8, u8, u16) -> u64,
+}
+
+impl Machine for Interface {
+    fn power_on(&self, board: &mut Board, on: &PowerOn) -> Reply {
+        let [f0, f1, f2, f3] = on.maps;
+        // SAFETY: the board is a live record of the layout of the C interface.
+        Reply(unsafe {
+            (self.power_on)(board, on.sizes.internal, on.sizes.total, on.rate, f0, f1, f2, f3, on.lock, on.table, on.top)
+        })
+    }
+
+    fn step(&self, board: &mut Board, step: Numbers, ram: &mut [u8], stream: &[u8]) -> Reply {
+        let Numbers { kind, number, value } = step;
+        // SAFETY: record and slices live through the call and do not overlap.
+        Reply(unsafe {
+            (self.step)(board, kind, number, value, ram.as_mut_ptr(), ram.len(), stream.as_ptr(), stream.len())
+        })
+    }
+
+    fn draw(&self, board: &Board, ram: &[u8], picture: &mut [u8]) -> Reply {
+        // SAFETY: as for a step; the record is only read.
+        Reply(unsafe { (self.draw)(board, ram.as_ptr(), ram.len(), picture.as_mut_ptr(), picture.len()) })
+    }
+
+    fn refresh(&self, board: &mut Board, ram: &[u8], picture: &mut [u8]) -> Reply {
+        // SAFETY: as for a step.
+        Reply(unsafe { (self.refresh)(board, ram.as_ptr(), ram.len(), picture.as_mut_ptr(), picture.len()) })
+    }
+
+    fn next_noted(&self, board: &Board, n: u32) -> Reply {
+        // SAFETY: the record is only read.
+        Reply(unsafe { (self.next_noted)(board, n) })
+    }
+
+    fn first_difference(&self, a: &[u8], b: &[u8]) -> Reply {
+        // SAFETY: both slices are only read.
+        Reply(unsafe { (self.first_difference)(a.as_ptr(), a.len(), b.as_ptr(), b.len()) })
+    }
+
+    fn widen(&self, line: &[u8], out: &mut [u8]) -> u8 {
+        // SAFETY: the slices live through the call and do not overlap.
+        unsafe { (self.widen)(line.as_ptr(), line.len(), out.as_mut_ptr(), out.len()) }
+    }
+
+    fn make_pointer(&self, block: u32, start: u32) -> Reply {
+        // SAFETY: plain numbers.
+        Reply(unsafe { (self.make_pointer)(block, start) })
+    }
+
+    fn read_pointer(&self, word: u16) -> Reply {
+        // SAFETY: plain numbers.
+        Reply(unsafe { (self.read_pointer)(word) })
+    }
+
+    fn roll(&self, old: u8, new: u8) -> i8 {
+        // SAFETY: plain numbers.
+        unsafe { (self.roll)(old, new) }
+    }
+
+    fn reach(&self, ask: &Ask) -> Reply {
+        let [f0, f1, f2, f3] = ask.paging.maps;
+        let lock = ask.paging.lock;
+        // SAFETY: plain numbers.
+        Reply(unsafe { (self.reach)(ask.sizes.internal, ask.sizes.total, f0, f1, f2, f3, lock, ask.address) })
+    }
+}

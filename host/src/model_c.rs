@@ -1,0 +1,129 @@
+//! The model behind the C interface, to be timed beside the library, and for `standin-c` to export.
+
+use crate::interface::Interface;
+use crate::machine::{Machine, Model, Numbers};
+use crate::model::{Ask, PowerOn};
+use crate::record::{Board, Paging, Sizes};
+
+/// The model's functions, called as the library's are.
+pub const MODEL: Interface = Interface {
+    power_on: joyce_power_on,
+    step: joyce_step,
+    draw: joyce_draw,
+    refresh: joyce_refresh,
+    next_noted: joyce_next_noted,
+    first_difference: joyce_first_difference,
+    widen: joyce_widen,
+    make_pointer: joyce_make_pointer,
+    read_pointer: joyce_read_pointer,
+    roll: joyce_roll,
+    reach: joyce_reach,
+};
+
+/// The bytes lent by pointer and length; C may lend none by a null pointer.
+unsafe fn lent<'a>(at: *const u8, len: usize) -> &'a [u8] {
+    if len == 0 {
+        &[]
+    } else {
+        std::slice::from_raw_parts(at, len)
+    }
+}
+
+unsafe fn lent_mut<'a>(at: *mut u8, len: usize) -> &'a mut [u8] {
+    if len == 0 {
+        &mut []
+    } else {
+        std::slice::from_raw_parts_mut(at, len)
+    }
+}
+
+#[cfg_attr(feature = "standin", no_mangle)]
+pub unsafe extern "C" fn joyce_power_on(
+    board: *mut Board,
+    internal: u8,
+    total: u8,
+    rate: u8,
+    f0: u8,
+    f1: u8,
+    f2: u8,
+    f3: u8,
+    lock: u8,
+    f5: u8,
+    f6: u8,
+) -> u64 {
+    let sizes = Sizes { internal, total };
+    let on = PowerOn { sizes, rate, maps: [f0, f1, f2, f3], lock, table: f5, top: f6 };
+    Model.power_on(&mut *board, &on).0
+}
+
+#[cfg_attr(feature = "standin", no_mangle)]
+pub unsafe extern "C" fn joyce_step(
+    board: *mut Board,
+    kind: u32,
+    number: u32,
+    value: u32,
+    ram: *mut u8,
+    ram_len: usize,
+    boot: *const u8,
+    boot_len: usize,
+) -> u64 {
+    Model.step(&mut *board, Numbers::new(kind, number, value), lent_mut(ram, ram_len), lent(boot, boot_len)).0
+}
+
+#[cfg_attr(feature = "standin", no_mangle)]
+pub unsafe extern "C" fn joyce_draw(
+    board: *const Board,
+    ram: *const u8,
+    ram_len: usize,
+    picture: *mut u8,
+    picture_len: usize,
+) -> u64 {
+    Model.draw(&*board, lent(ram, ram_len), lent_mut(picture, picture_len)).0
+}
+
+#[cfg_attr(feature = "standin", no_mangle)]
+pub unsafe extern "C" fn joyce_refresh(
+    board: *mut Board,
+    ram: *const u8,
+    ram_len: usize,
+    picture: *mut u8,
+    picture_len: usize,
+) -> u64 {
+    Model.refresh(&mut *board, lent(ram, ram_len), lent_mut(picture, picture_len)).0
+}
+
+#[cfg_attr(feature = "standin", no_mangle)]
+pub unsafe extern "C" fn joyce_next_noted(board: *const Board, n: u32) -> u64 {
+    Model.next_noted(&*board, n).0
+}
+
+#[cfg_attr(feature = "standin", no_mangle)]
+pub unsafe extern "C" fn joyce_first_difference(a: *const u8, a_len: usize, b: *const u8, b_len: usize) -> u64 {
+    Model.first_difference(lent(a, a_len), lent(b, b_len)).0
+}
+
+#[cfg_attr(feature = "standin", no_mangle)]
+pub unsafe extern "C" fn joyce_widen(line: *const u8, line_len: usize, out: *mut u8, out_len: usize) -> u8 {
+    Model.widen(lent(line, line_len), lent_mut(out, out_len))
+}
+
+#[cfg_attr(feature = "standin", no_mangle)]
+pub extern "C" fn joyce_make_pointer(block: u32, start: u32) -> u64 {
+    Model.make_pointer(block, start).0
+}
+
+#[cfg_attr(feature = "standin", no_mangle)]
+pub extern "C" fn joyce_read_pointer(word: u16) -> u64 {
+    Model.read_pointer(word).0
+}
+
+#[cfg_attr(feature = "standin", no_mangle)]
+pub extern "C" fn joyce_roll(old_top: u8, new_top: u8) -> i8 {
+    Model.roll(old_top, new_top)
+}
+
+#[cfg_attr(feature = "standin", no_mangle)]
+pub extern "C" fn joyce_reach(internal: u8, total: u8, f0: u8, f1: u8, f2: u8, f3: u8, lock: u8, address: u16) -> u64 {
+    let paging = Paging { maps: [f0, f1, f2, f3], lock };
+    Model.reach(&Ask { sizes: Sizes { internal, total }, paging, address }).0
+}
