@@ -205,8 +205,9 @@ pset("shown at 55", set())
 pset("some", SOME)
 pset("some or shown at 60", SOME | set(range(200)))
 pset("some and shown at 60", SOME & set(range(200)))
-say("some within shown at 60: %d at 50: %d the common ones at 60: %d" % (SOME <= set(range(200)), SOME <= set(range(256)),
-                                                                       SOME & set(range(200)) <= set(range(200))))
+pset("some with shown at 50", SOME | set(range(256)))
+pset("some with shown at 60", SOME | set(range(200)))
+pset("some with shown at 55", SOME)
 say("shown lines 256 200 0 scans 312 260")
 def has(s, n):
     c = [l for l in s if l >= n]

@@ -2,6 +2,7 @@
 ghost use mathlib.Core.Path.{_≡_};
 ghost use Rattle.board.specs.Record.{intOf, nmiOf};
 ghost use Rattle.answers.specs.Steps.{acceptedAnswer, refusedAnswer, answerOf, lentRefusal};
+ghost use Rattle.answers.specs.Steps.{accepts as Steps·accepts, refuses as Steps·refuses};
 use board::Board;
 
 // A step's kind with its plain arguments: addresses, channels (ports), offsets and values.
@@ -35,6 +36,30 @@ pub struct Taken {
     pub byte: u8,
     pub forwarded: bool,
     pub refusal: u8,
+}
+
+// A kind accepts: the record that it hands on, its byte, and whether the access is passed on to the host.
+pub fn accepts(b: Board, byte: u8, forwarded: bool) -> Taken
+    ensures { λ r. ⌜ r ≡ Steps·accepts b byte forwarded ⌝ }
+{
+    Taken {
+        board: b.by_fields(),
+        byte,
+        forwarded,
+        refusal: 0,
+    }
+}
+
+// A kind refuses, with a number and the record given.
+pub fn refuses(b: Board, refusal: u8) -> Taken
+    ensures { λ r. ⌜ r ≡ Steps·refuses b refusal ⌝ }
+{
+    Taken {
+        board: b.by_fields(),
+        byte: 0,
+        forwarded: false,
+        refusal,
+    }
 }
 
 fn int_line(b: Board) -> bool

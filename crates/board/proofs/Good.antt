@@ -8,12 +8,16 @@ use lib.Dec.{leb}
 use Rattle.lineset.specs.Lines.{inside}
 use Rattle.paging.specs.Memory.{allowed}
 use Rattle.board.specs.declared.record.Board.{Board}
-use Rattle.parts.specs.Parts.{goodDisc}
-use Rattle.board.specs.Record.{good, goodRate, goodTime, goodFlags, shownSet}
+use Rattle.board.specs.Record.{good, goodRate, goodTime, goodDisc, goodFlags, shownSet}
 
 pub both : (x y : Bool) → (x && y) ≡ true → (x ≡ true) × (y ≡ true)
 both true y e = (refl, e)
 both false y e = absurd (true≢false (sym e))
+
+-- a test that is asked only where another holds
+pub under : (r x y : Bool) → (r ≡ true → x ≡ y) → (r && x) ≡ (r && y)
+under true x y h = h refl
+under false x y h = refl
 
 -- the parts of a good record
 pub record Parts (b : Board) : Type 0 where

@@ -1,31 +1,23 @@
--- Laws of marking: a set with more lines, and what changes between two moments with the same RAM.
+-- Laws of marking: what changes between two moments with the same RAM, and what a store marks.
 -- Assumes nothing.
 use Prim.Native.Nat.{ℕ, _/_, _<_}
 use mathlib.Core.Path.{_≡_, refl, sym, _∙_, ap, ap₂}
-use mathlib.Core.Bool.{Bool, true, false, not, _&&_, _||_, or-false, and-false, and-true, and-comm}
+use mathlib.Core.Bool.{Bool, true, false, not, _&&_, _||_, and-false, and-true, and-comm}
 use mathlib.Core.List.{List}
 use borrow.Author.Tests.{eqb-true, eq-eqb, ne-eqb}
 use lib.ListN.{getD, set, length}
 use lib.Dec.{eqb, ltb}
 use Rattle.lineset.specs.declared.LineSet.{LineSet}
 use Rattle.lineset.specs.Lines.{setOf, member, shownLines}
-use Rattle.lineset.proofs.Sets.{Words, set-agree, set-members, member-set}
+use Rattle.lineset.proofs.Sets.{Words, member-set, more-agree, more-none}
 use Rattle.scanline.specs.Drawing.{changed, ramChanged, touches}
 use Rattle.scanline.proofs.Changes.{ram-same, store-changed}
 use Rattle.board.specs.declared.record.Board.{Board}
 use Rattle.parts.specs.declared.Video.{Video}
-use Rattle.board.specs.Record.{viewOf, withDirty, shownSet}
+use Rattle.board.specs.Record.{viewOf, withDirty}
 use Rattle.parts.specs.Parts.{videoDiffers}
 use Rattle.board.specs.Registers.{dirtied}
 use Rattle.board.specs.Marks.{marked}
-
--- more lines, by a test of each
-pub more-agree : (d : LineSet) (x y : ℕ → Bool) → ((L : ℕ) → L < 256 → x L ≡ y L) → setOf (λ (L : ℕ). member d L || x L) ≡ setOf (λ (L : ℕ). member d L || y L)
-more-agree d x y h = set-agree (λ (L : ℕ). member d L || x L) (λ (L : ℕ). member d L || y L) (λ L l. ap (λ (b : Bool). member d L || b) (h L l))
-
-pub more-none : (d : LineSet) → Words d → (x : ℕ → Bool) → ((L : ℕ) → L < 256 → x L ≡ false) → setOf (λ (L : ℕ). member d L || x L) ≡ d
-more-none d w x h =
-    set-agree (λ (L : ℕ). member d L || x L) (member d) (λ L l. ap (λ (b : Bool). member d L || b) (h L l) ∙ or-false (member d L)) ∙ sym (set-members d w)
 
 -- between two moments with the same RAM a line changes if the registers differ
 pub registers-changed : (ram : List ℕ) (b c : Board) (L : ℕ) → changed (viewOf b ram) (viewOf c ram) L ≡ videoDiffers (b .video) (c .video)
@@ -74,13 +66,12 @@ marked-none ram b c w d r v =
 
 -- if they differ, every shown line is
 pub dirtied-shown : (c : Board) (before : Video) → videoDiffers before (c .video) ≡ true
-    → withDirty c (setOf (λ (L : ℕ). member (c .dirty) L || member (shownSet (c .rate)) L)) ≡ dirtied c before
-unfolding dirtied shownSet
+    → withDirty c (setOf (λ (L : ℕ). member (c .dirty) L || ltb L (shownLines (c .rate)))) ≡ dirtied c before
+unfolding dirtied
 dirtied-shown c before e =
     ap (λ (s : LineSet). withDirty c s)
-    (more-agree (c .dirty) (member (setOf (λ (L : ℕ). ltb L (shownLines (c .rate))))) (λ (L : ℕ). ltb L (shownLines (c .rate)) && videoDiffers before (c .video))
-    (λ L l.
-    member-set (λ (M : ℕ). ltb M (shownLines (c .rate))) L l ∙ sym (and-true (ltb L (shownLines (c .rate)))) ∙ ap (λ (t : Bool). ltb L (shownLines (c .rate)) && t) (sym e)))
+    (more-agree (c .dirty) (λ (L : ℕ). ltb L (shownLines (c .rate))) (λ (L : ℕ). ltb L (shownLines (c .rate)) && videoDiffers before (c .video))
+    (λ L l. sym (and-true (ltb L (shownLines (c .rate)))) ∙ ap (λ (t : Bool). ltb L (shownLines (c .rate)) && t) (sym e)))
 
 -- a store of a byte that is there, or past the end
 pub store-kept : (ram : List ℕ) (b : Board) (at x : ℕ) → Words (b .dirty) → set ram at x ≡ ram → marked b ram b (set ram at x) ≡ b

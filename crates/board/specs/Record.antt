@@ -7,7 +7,7 @@ use Rattle.lineset.specs.declared.LineSet.{LineSet}
 use Rattle.lineset.specs.Lines.{setOf, inside, shownLines}
 use Rattle.paging.specs.Memory.{allowed}
 use Rattle.scanline.specs.Drawing.{View}
-use Rattle.parts.specs.Parts.{frame, goodDisc}
+use Rattle.parts.specs.Parts.{frame}
 use Rattle.board.specs.declared.record.Board.{Board}
 use Rattle.parts.specs.declared.Clock.{Clock}
 use Rattle.parts.specs.declared.Boot.{Boot}
@@ -25,6 +25,11 @@ goodFlags b = leb (b .external) 1 && (leb (b .driven) 1 && leb (b .bleeper) 1)
 
 unfoldable pub goodTime : Board → Bool
 goodTime b = leb (b .clock .counter) 15 && (ltb (b .clock .beam) (frame (b .rate)) && (leb (b .boot .mode) 1 && leb (b .boot .at) 1024))
+
+unfoldable pub goodDisc : Disc → Bool
+goodDisc d =
+    leb (d .route) 2
+    && (leb (d .line) 1 && (leb (d .«terminal_count») 1 && (leb (d .motor) 1 && not (eqb (d .route) 1 && eqb (d .line) 1))))
 
 -- every field in range, no dirty line that is not shown, and never route NMI with the disc line on
 unfoldable pub good : Board → Bool

@@ -103,7 +103,7 @@ impl Board {
         }
         let dirty = self.dirty;
         let mut b = self;
-        b.dirty = lineops::union(dirty, LineSet::shown(self.rate));
+        b.dirty = lineops::with_shown(dirty, self.rate);
         b
     }
 

@@ -36,14 +36,14 @@ pub(crate) fn sets() {
     counted(b"some ", s);
     counted(b"some or shown at 60 ", lineops::union(s, shown));
     counted(b"some and shown at 60 ", both);
-    flag(b"some within shown at 60: ", lineops::within(s, shown));
-    flag(b" at 50: ", lineops::within(s, LineSet::shown(50)));
-    flag(b" the common ones at 60: ", lineops::within(both, shown));
+    counted(b"some with shown at 50 ", lineops::with_shown(s, 50));
+    counted(b"some with shown at 60 ", lineops::with_shown(s, 60));
+    counted(b"some with shown at 55 ", lineops::with_shown(s, 55));
     rates();
 }
 
 fn rates() {
-    medium(b"\nshown lines ", lineset::shown_lines(50));
+    medium(b"shown lines ", lineset::shown_lines(50));
     medium(b" ", lineset::shown_lines(60));
     medium(b" ", lineset::shown_lines(0));
     medium(b" scans ", board::frame_scans(50));

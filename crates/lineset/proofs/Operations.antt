@@ -2,22 +2,22 @@
 -- Assumes nothing.
 use Prim.Native.Nat.{ℕ, zero, suc, _+_, _-_, _*_, _/_, _%_, _^_, _≤_, _<_}
 use native.Mathlib.Omega.{arith}
-use native.Mathlib.Nat.{add-zero, div-one}
+use native.Mathlib.Nat.{add-zero, zero-add, div-one}
 use mathlib.Core.Path.{_≡_, refl, sym, _∙_, ap, ap₂}
-use mathlib.Core.Bool.{Bool, true, false, not, _&&_, _||_}
+use mathlib.Core.Bool.{Bool, true, false, not, _&&_, _||_, or-true, or-false}
 use mathlib.Core.List.{[], _∷_}
-use borrow.Author.Tests.{eq-eqb, ne-eqb, eqb-true, eqb-false}
-use lib.Dec.{eqb}
-use lib.Bits.{bitOr, bitAnd, or-block}
+use borrow.Author.Tests.{eq-eqb, ne-eqb, eqb-true, eqb-false, lt-ltb, le-ltb}
+use lib.Dec.{eqb, ltb}
+use lib.Bits.{bitOr, bitAnd}
 use lib.Count.{ones, trailingZeros}
 use lib.ListN.{getD}
 use mir.Val.{boolByte}
 use Rattle.lineset.specs.declared.LineSet.{LineSet}
 use Rattle.lineset.specs.declared.Line.the-variants.{At, Nothing}
 use Rattle.lineset.specs.Lines.{packed, setOf, member, countOf, firstOf, every, inside}
-use Rattle.lineset.proofs.Laws.{boolByte-lt, packed-shift, or-packed, and-packed, ones-packed, count-add}
-use Rattle.lineset.proofs.Search.{first-none, first-some, every-add}
-use Rattle.lineset.proofs.Sets.{Words, word-members}
+use Rattle.lineset.proofs.Laws.{packed-shift, or-packed, and-packed, ones-packed, count-add}
+use Rattle.lineset.proofs.Search.{first-none, first-some, every-all, every-agree, every-add}
+use Rattle.lineset.proofs.Sets.{Words, word-members, member-set}
 
 -- four words, each packed from a test
 pub four-words : (p : ℕ → Bool) (a b c d : ℕ) → a ≡ packed p 0 64 → b ≡ packed p 64 64 → c ≡ packed p 128 64 → d ≡ packed p 192 64
@@ -125,52 +125,52 @@ module _ (s : LineSet) (ws : Words s) (i : ℕ) (h : i < 4) where
   pub first-next : getD (s .words) i 0 ≡ 0 → firstOf (member s) (64 * i) (256 - 64 * i) ≡ firstOf (member s) (64 * (i + 1)) (256 - 64 * (i + 1))
   first-next z = rw add-zero at (first-past s ws i 0 h (omega arith) (div-one (getD (s .words) i 0) ∙ z))
 
--- ---- whether one set is inside another: no word gains a digit from it
+-- ---- whether every line of a set is below a number
 
-eqb-digits : (x y c d : ℕ) → c < 2 → d < 2 → eqb (x * 2 + c) (y * 2 + d) ≡ (eqb c d && eqb x y)
-eqb-digits x y c d hc hd = go (eqb c d) refl (eqb x y) refl
+none-step : (b : Bool) (w : ℕ) → (not b && eqb w 0) ≡ eqb (w * 2 + boolByte b) 0
+none-step true w = sym (ne-eqb (w * 2 + 1) 0 (λ (z : w * 2 + 1 ≡ 0). omega arith))
+none-step false w = go (eqb w 0) refl
   where
-    go : (a : Bool) → eqb c d ≡ a → (b : Bool) → eqb x y ≡ b → eqb (x * 2 + c) (y * 2 + d) ≡ (a && b)
-    go true e true f = let g = eqb-true c d e in let h = eqb-true x y f in eq-eqb (x * 2 + c) (y * 2 + d) (omega arith)
-    go true e false f = ne-eqb (x * 2 + c) (y * 2 + d) (λ (z : x * 2 + c ≡ y * 2 + d). eqb-false x y f (omega arith))
-    go false e b f = ne-eqb (x * 2 + c) (y * 2 + d) (λ (z : x * 2 + c ≡ y * 2 + d). eqb-false c d e (omega arith))
+    go : (t : Bool) → eqb w 0 ≡ t → t ≡ eqb (w * 2 + 0) 0
+    go true e = let z = eqb-true w 0 e in sym (eq-eqb (w * 2 + 0) 0 (omega arith))
+    go false e = let z = eqb-false w 0 e in sym (ne-eqb (w * 2 + 0) 0 (λ (y : w * 2 + 0 ≡ 0). z (omega arith)))
 
-gains : (a b : Bool) → eqb (bitOr (boolByte a) (boolByte b)) (boolByte b) ≡ (not a || b)
-gains true true = refl
-gains true false = refl
-gains false true = refl
-gains false false = refl
-
-or-below : (a b : Bool) → bitOr (boolByte a) (boolByte b) < 2
-or-below true true = omega arith
-or-below true false = omega arith
-or-below false true = omega arith
-or-below false false = omega arith
-
-pub covered : (p q : ℕ → Bool) (from n : ℕ)
-    → eqb (bitOr (packed p from n) (packed q from n)) (packed q from n) ≡ every (λ (L : ℕ). not (p L) || q L) from n
+-- a test holds of none of n numbers: their digits are 0
+none-packed : (p : ℕ → Bool) (from n : ℕ) → every (λ (L : ℕ). not (p L)) from n ≡ eqb (packed p from n) 0
 unfolding packed every
-covered p q from zero = refl
-covered p q from (suc n) =
-    ap (λ (w : ℕ). eqb w (packed q (suc from) n * 2 + boolByte (q from)))
-    (or-block 1 (packed p (suc from) n) (packed q (suc from) n) (boolByte (p from)) (boolByte (q from)) (boolByte-lt (p from)) (boolByte-lt (q from)))
-    ∙ eqb-digits (bitOr (packed p (suc from) n) (packed q (suc from) n)) (packed q (suc from) n) (bitOr (boolByte (p from)) (boolByte (q from))) (boolByte (q from))
-    (or-below (p from) (q from))
-    (boolByte-lt (q from))
-    ∙ ap₂ _&&_ (gains (p from) (q from)) (covered p q (suc from) n)
+none-packed p from zero = refl
+none-packed p from (suc n) =
+    ap (λ (t : Bool). not (p from) && t) (none-packed p (suc from) n) ∙ none-step (p from) (packed p (suc from) n)
 
-module _ (s t : LineSet) (ws : Words s) (wt : Words t) where
-  covered-word : (j : ℕ)
-      → eqb (bitOr (getD (s .words) j 0) (getD (t .words) j 0)) (getD (t .words) j 0) ≡ every (λ (L : ℕ). not (member s L) || member t L) (64 * j) 64
-  covered-word j =
-      ap₂ (λ (v w : ℕ). eqb (bitOr v w) w) (sym (word-members s ws j)) (sym (word-members t wt j)) ∙ covered (member s) (member t) (64 * j) 64
+-- a line of s is below n, or is not there
+below : LineSet → ℕ → ℕ → Bool
+below s n L = not (member s L) || ltb L n
 
-  pub inside-words : inside s t
-      ≡ (eqb (bitOr (getD (s .words) 0 0) (getD (t .words) 0 0)) (getD (t .words) 0 0)
-      && (eqb (bitOr (getD (s .words) 1 0) (getD (t .words) 1 0)) (getD (t .words) 1 0)
-      && (eqb (bitOr (getD (s .words) 2 0) (getD (t .words) 2 0)) (getD (t .words) 2 0)
-      && eqb (bitOr (getD (s .words) 3 0) (getD (t .words) 3 0)) (getD (t .words) 3 0))))
-  unfolding inside
-  inside-words =
-      every-add _ 0 64 192 ∙ ap₂ _&&_ (sym (covered-word 0))
-      (every-add _ 64 64 128 ∙ ap₂ _&&_ (sym (covered-word 1)) (every-add _ 128 64 64 ∙ ap₂ _&&_ (sym (covered-word 2)) (sym (covered-word 3))))
+inside-below : (s : LineSet) (n : ℕ) → inside s (setOf (λ (L : ℕ). ltb L n)) ≡ every (below s n) 0 256
+unfolding inside below
+inside-below s n =
+    every-agree _ _ 0 256
+    (λ i l. ap (λ (t : Bool). not (member s (0 + i)) || t) (member-set (λ (L : ℕ). ltb L n) (0 + i) (omega arith)))
+
+below-first : (s : LineSet) (n m : ℕ) → m ≤ n → every (below s n) 0 m ≡ true
+unfolding below
+below-first s n m h =
+    every-all (below s n) 0 m
+    (λ i l. ap (λ (t : Bool). not (member s (0 + i)) || t) (lt-ltb (0 + i) n (omega arith)) ∙ or-true (not (member s (0 + i))))
+
+pub inside-all : (s : LineSet) → inside s (setOf (λ (L : ℕ). ltb L 256)) ≡ true
+inside-all s = inside-below s 256 ∙ below-first s 256 256 (omega arith)
+
+-- the last word has the lines from 192 on: those from 192 + k on are its digits from k on
+pub inside-last : (s : LineSet) → Words s → (k : ℕ) → k < 64 → inside s (setOf (λ (L : ℕ). ltb L (192 + k))) ≡ eqb (getD (s .words) 3 0 / 2 ^ k) 0
+unfolding below
+inside-last s ws k h =
+    let e : 256 ≡ 192 + k + (64 - k) = omega arith in
+    inside-below s (192 + k)
+    ∙ ap (λ (n : ℕ). every (below s (192 + k)) 0 n) e
+    ∙ every-add (below s (192 + k)) 0 (192 + k) (64 - k)
+    ∙ ap₂ (λ (t : Bool) (n : ℕ). t && every (below s (192 + k)) n (64 - k)) (below-first s (192 + k) (192 + k) (omega arith)) (zero-add (192 + k))
+    ∙ every-agree (below s (192 + k)) (λ (L : ℕ). not (member s L)) (192 + k) (64 - k)
+    (λ i l. ap (λ (t : Bool). not (member s (192 + k + i)) || t) (le-ltb (192 + k + i) (192 + k) (omega arith)) ∙ or-false (not (member s (192 + k + i))))
+    ∙ none-packed (member s) (192 + k) (64 - k)
+    ∙ ap (λ (w : ℕ). eqb w 0) (sym (tail s ws 3 k (omega arith) h))

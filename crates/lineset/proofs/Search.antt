@@ -64,6 +64,13 @@ every-all p from zero h = refl
 every-all p from (suc n) h =
     rw (rw add-zero at (h zero (omega arith))) (every-all p (suc from) n (λ i l. rw (suc-add, ← add-suc) (h (suc i) (omega arith))))
 
+-- two tests that agree on the numbers
+pub every-agree : (p q : ℕ → Bool) (from n : ℕ) → ((i : ℕ) → i < n → p (from + i) ≡ q (from + i)) → every p from n ≡ every q from n
+unfolding every
+every-agree p q from zero h = refl
+every-agree p q from (suc n) h =
+    ap₂ _&&_ (rw add-zero at (h zero (omega arith))) (every-agree p q (suc from) n (λ i l. rw (suc-add, ← add-suc) (h (suc i) (omega arith))))
+
 -- a range in two parts
 pub every-add : (p : ℕ → Bool) (from m n : ℕ) → every p from (m + n) ≡ (every p from m && every p (from + m) n)
 unfolding every

@@ -4,7 +4,7 @@ use Prim.Native.Nat.{ℕ, zero, suc, _+_, _*_, _/_, _%_, _^_, _≤_, _<_}
 use native.Mathlib.Omega.{arith}
 use native.Mathlib.Nat.{zero-div}
 use mathlib.Core.Path.{_≡_, refl, sym, _∙_, ap, ap₂}
-use mathlib.Core.Bool.{Bool, true, false, _||_}
+use mathlib.Core.Bool.{Bool, true, false, _||_, or-true, or-false}
 use mathlib.Core.List.{List}
 use lib.Dec.{eqb}
 use lib.ListN.{getD, length, List·getD-eq-default}
@@ -92,6 +92,18 @@ set-agree p q h =
 
 pub set-equal : (s t : LineSet) → Words s → Words t → ((L : ℕ) → L < 256 → member s L ≡ member t L) → s ≡ t
 set-equal s t ws wt h = set-members s ws ∙ set-agree (member s) (member t) h ∙ sym (set-members t wt)
+
+-- more lines, by a test of each
+pub more-agree : (d : LineSet) (x y : ℕ → Bool) → ((L : ℕ) → L < 256 → x L ≡ y L) → setOf (λ (L : ℕ). member d L || x L) ≡ setOf (λ (L : ℕ). member d L || y L)
+more-agree d x y h = set-agree (λ (L : ℕ). member d L || x L) (λ (L : ℕ). member d L || y L) (λ L l. ap (λ (b : Bool). member d L || b) (h L l))
+
+pub more-none : (d : LineSet) → Words d → (x : ℕ → Bool) → ((L : ℕ) → L < 256 → x L ≡ false) → setOf (λ (L : ℕ). member d L || x L) ≡ d
+more-none d w x h =
+    set-agree (λ (L : ℕ). member d L || x L) (member d) (λ L l. ap (λ (b : Bool). member d L || b) (h L l) ∙ or-false (member d L)) ∙ sym (set-members d w)
+
+pub more-all : (d : LineSet) (x : ℕ → Bool) → ((L : ℕ) → L < 256 → x L ≡ true) → setOf (λ (L : ℕ). member d L || x L) ≡ setOf x
+more-all d x h =
+    set-agree (λ (L : ℕ). member d L || x L) x (λ L l. ap (λ (b : Bool). member d L || b) (h L l) ∙ or-true (member d L) ∙ sym (h L l))
 
 -- the count of a set made of a test
 pub count-set : (p : ℕ → Bool) → countOf (member (setOf p)) 0 256 ≡ countOf p 0 256

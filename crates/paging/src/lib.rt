@@ -31,7 +31,7 @@ impl Sizes {
     }
 }
 
-pub fn bank(address: u16) -> u8
+fn bank(address: u16) -> u8
     ensures { λ r. ⌜ r ≡ bankOf address ⌝ }
 {
     (address / 16384) as u8
@@ -44,7 +44,7 @@ pub fn place(address: u16) -> u16
 }
 
 // The lock bit of a bank: D7 bank C000h, D6 0000h, D5 8000h, D4 4000h.
-pub fn locked(lock: u8, bank: u8) -> bool
+fn locked(lock: u8, bank: u8) -> bool
     ensures { λ r. ⌜ r ≡ Memory·locked lock bank ⌝ }
 {
     match bank {

@@ -1,20 +1,14 @@
--- The parts of the record by themselves: the frame, the disc controller, a scan of the clock and the video registers.
--- Document 01, "What the box holds", "Channels out" and "Scan".
+-- The parts of the record by themselves: the frame, a scan of the clock and the video registers.
+-- Document 01, "Channels out" and "Scan".
 use Prim.Native.Nat.{ℕ, _+_, _/_, _%_, min}
 use mathlib.Core.Bool.{Bool, cond, not, _&&_, _||_}
 use lib.Dec.{eqb, ltb, leb}
 use Rattle.parts.specs.declared.Clock.{Clock}
-use Rattle.parts.specs.declared.Disc.{Disc}
 use Rattle.parts.specs.declared.Video.{Video}
 
 -- scans in a frame: 312 on 50 Hz, 260 on 60 Hz
 unfoldable pub frame : ℕ → ℕ
 frame rate = cond (eqb rate 50) 312 260
-
-unfoldable pub goodDisc : Disc → Bool
-goodDisc d =
-    leb (d .route) 2
-    && (leb (d .line) 1 && (leb (d .«terminal_count») 1 && (leb (d .motor) 1 && not (eqb (d .route) 1 && eqb (d .line) 1))))
 
 -- the beam goes up by one, from the last scan of the frame to 0
 unfoldable pub nextBeam : ℕ → ℕ → ℕ

@@ -1,6 +1,6 @@
 // The parts of the board's record that tell of themselves alone: the video registers, the clock, the boot and the disc controller.
 ghost use mathlib.Core.Path.{_≡_};
-ghost use Rattle.parts.specs.Parts.{frame, goodDisc, nextBeam, scanned, videoDiffers};
+ghost use Rattle.parts.specs.Parts.{frame, nextBeam, scanned, videoDiffers};
 
 // F5, F6 and F7.
 #[repr(C)]
@@ -31,18 +31,6 @@ pub struct Disc {
     pub line: u8,
     pub terminal_count: u8,
     pub motor: u8,
-}
-
-impl Disc {
-    // Whether each is in range, and route NMI does not meet the line on.
-    pub fn is_good(self) -> bool
-        ensures { λ r. ⌜ r ≡ goodDisc self ⌝ }
-    {
-        (self.route <= 2)
-            & ((self.line <= 1)
-                & ((self.terminal_count <= 1)
-                    & ((self.motor <= 1) & !((self.route == 1) & (self.line == 1)))))
-    }
 }
 
 // Scans in a frame.

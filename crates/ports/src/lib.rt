@@ -5,6 +5,8 @@ ghost use Rattle.board.specs.Registers.{forwardedOut};
 ghost use Rattle.answers.specs.Steps.{taken};
 use answers::Step;
 use answers::Taken;
+use answers::accepts;
+use answers::refuses;
 use board::Board;
 
 // F8 as read: 64 in the flyback, 32 with the disc line on, 16 on 50 Hz, and the counter.
@@ -33,44 +35,19 @@ pub fn take_port_in(b: Board, port: u8, ram: &[u8], boot: &[u8]) -> Taken
     ensures { λ r. ⌜ r ≡ taken b (now (ram .entry)) (now (boot .entry)) (Step.PortIn port) ⌝ }
 {
     match port {
-        0x00 => Taken {
-            board: b,
-            byte: 0,
-            forwarded: true,
-            refusal: 0,
-        },
+        0x00 => accepts(b, 0, true),
         0xf4 => {
             let byte = status(b);
             let mut after = b;
             after.clock.counter = 0;
-            Taken {
-                board: after,
-                byte,
-                forwarded: false,
-                refusal: 0,
-            }
+            accepts(after, byte, false)
         }
-        0xf8 => Taken {
-            board: b,
-            byte: status(b),
-            forwarded: false,
-            refusal: 0,
-        },
+        0xf8 => accepts(b, status(b), false),
         _ => {
             if host_takes(port) {
-                Taken {
-                    board: b,
-                    byte: 0,
-                    forwarded: true,
-                    refusal: 0,
-                }
+                accepts(b, 0, true)
             } else {
-                Taken {
-                    board: b,
-                    byte: 0,
-                    forwarded: false,
-                    refusal: 5,
-                }
+                refuses(b, 5)
             }
         }
     }
@@ -80,31 +57,11 @@ pub fn take_port_out(b: Board, port: u8, value: u8, ram: &[u8], boot: &[u8]) -> 
     ensures { λ r. ⌜ r ≡ taken b (now (ram .entry)) (now (boot .entry)) (Step.PortOut port value) ⌝ }
 {
     if host_takes(port) {
-        return Taken {
-            board: b,
-            byte: 0,
-            forwarded: true,
-            refusal: 0,
-        };
+        return accepts(b, 0, true);
     }
     match port {
-        0xf0..=0xf8 => Taken {
-            board: b.out(port, value),
-            byte: 0,
-            forwarded: false,
-            refusal: 0,
-        },
-        0xfa..=0xfb => Taken {
-            board: b,
-            byte: 0,
-            forwarded: false,
-            refusal: 0,
-        },
-        _ => Taken {
-            board: b,
-            byte: 0,
-            forwarded: false,
-            refusal: 5,
-        },
+        0xf0..=0xf8 => accepts(b.out(port, value), 0, false),
+        0xfa..=0xfb => accepts(b, 0, false),
+        _ => refuses(b, 5),
     }
 }

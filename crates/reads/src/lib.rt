@@ -3,6 +3,8 @@ ghost use mathlib.Core.Path.{_≡_};
 ghost use Rattle.answers.specs.Steps.{taken};
 use answers::Step;
 use answers::Taken;
+use answers::accepts;
+use answers::refuses;
 use board::Board;
 use paging::byte_at;
 
@@ -13,31 +15,16 @@ pub fn take_fetch(b: Board, address: u16, ram: &[u8], boot: &[u8]) -> Taken
     if b.boot.mode != 1 {
         let p = b.paging;
         let byte = byte_at(ram, p.read_place(b.sizes, address));
-        return Taken {
-            board: b,
-            byte,
-            forwarded: false,
-            refusal: 0,
-        };
+        return accepts(b, byte, false);
     }
     let at = b.boot.at as usize;
     if (boot.len() <= at) | (1024 <= at) {
-        return Taken {
-            board: b,
-            byte: 0,
-            forwarded: false,
-            refusal: 4,
-        };
+        return refuses(b, 4);
     }
     let next = b.boot.at + 1;
     let mut after = b;
     after.boot.at = next;
-    Taken {
-        board: after,
-        byte: boot[at],
-        forwarded: false,
-        refusal: 0,
-    }
+    accepts(after, boot[at], false)
 }
 
 pub fn take_read(b: Board, address: u16, ram: &[u8], boot: &[u8]) -> Taken
@@ -45,10 +32,5 @@ pub fn take_read(b: Board, address: u16, ram: &[u8], boot: &[u8]) -> Taken
 {
     let p = b.paging;
     let read = byte_at(ram, p.read_place(b.sizes, address));
-    Taken {
-        board: b,
-        byte: read,
-        forwarded: false,
-        refusal: 0,
-    }
+    accepts(b, read, false)
 }

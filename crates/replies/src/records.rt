@@ -5,14 +5,31 @@ ghost use Rattle.answers.specs.Steps.{stepAnswer, stepRam};
 ghost use Rattle.packing.specs.Packing.{sizesOf, pagingOf};
 ghost use Rattle.kinds.specs.Kinds.{asked};
 ghost use Rattle.replies.specs.Replies.{stepReply, startReply};
+use answers::Answer;
+use answers::answered;
+use answers::lent;
+use answers::refused;
 use board::Board;
 use kinds::ask;
 use packing::reply;
 use paging::Paging;
 use paging::Sizes;
 use redraws::Returned;
+use steps::take;
 
-// A step by its numbers.
+// A step by its numbers. They are read only where record and buffers are found good, so that their kind leads straight to what it takes.
+fn stepped(b: Board, kind: u32, number: u32, value: u32, ram: &mut [u8], boot: &[u8]) -> Answer
+    ensures { λ r. ⌜ (r ≡ stepAnswer b (now (ram .entry)) (now (boot .entry)) (asked kind number value)) × (now (ram .exit) ≡ stepRam b (now (ram .entry)) (now (boot .entry)) (asked kind number value)) ⌝ }
+{
+    let c = b.by_fields();
+    let n = lent(c, ram.len(), boot.len());
+    if n != 0 {
+        return refused(c, n);
+    }
+    answered(take(c, ask(kind, number, value), ram, boot))
+}
+
+// The same, packed.
 pub fn replied(
     b: Board,
     kind: u32,
@@ -23,9 +40,9 @@ pub fn replied(
 ) -> Returned
     ensures { λ r. ⌜ (r ≡ record { board = stepAnswer b (now (ram .entry)) (now (boot .entry)) (asked kind number value) .board; word = stepReply (stepAnswer b (now (ram .entry)) (now (boot .entry)) (asked kind number value)) }) × (now (ram .exit) ≡ stepRam b (now (ram .entry)) (now (boot .entry)) (asked kind number value)) ⌝ }
 {
-    let a = steps::step(b, ask(kind, number, value), ram, boot);
+    let a = stepped(b, kind, number, value, ram, boot);
     let flags = a.int as u8 + (2 * a.nmi as u8 + 4 * a.forwarded as u8);
-    let board = a.board;
+    let board = a.board.by_fields();
     let word = reply(a.byte as u16, flags, a.refusal, 0);
     Returned { board, word }
 }

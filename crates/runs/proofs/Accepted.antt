@@ -15,8 +15,8 @@ use Rattle.paging.specs.declared.Paging.{Paging}
 use Rattle.paging.specs.Memory.{allowed}
 use Rattle.board.specs.declared.record.Board.{Board}
 use Rattle.power.specs.Power.{freshBoard, startRefusal, started}
-use Rattle.parts.specs.Parts.{goodDisc, frame}
-use Rattle.board.specs.Record.{good, goodTime, goodFlags, goodRate, shownSet}
+use Rattle.parts.specs.Parts.{frame}
+use Rattle.board.specs.Record.{good, goodTime, goodDisc, goodFlags, goodRate, shownSet}
 use Rattle.board.specs.Marks.{marked}
 use Rattle.board.proofs.Good.{Parts, good-parts, parts-good, both}
 use Rattle.answers.specs.declared.Step.{Step}

@@ -17,8 +17,8 @@ use Rattle.lineset.proofs.Search.{every-at, every-all}
 use Rattle.scanline.specs.Drawing.{changed}
 use Rattle.board.specs.declared.record.Board.{Board}
 use Rattle.parts.specs.declared.Disc.{Disc}
-use Rattle.parts.specs.Parts.{goodDisc, frame, nextBeam, ticks, scanned}
-use Rattle.board.specs.Record.{goodTime, goodFlags, shownSet, nmiOf, viewOf}
+use Rattle.parts.specs.Parts.{frame, nextBeam, ticks, scanned}
+use Rattle.board.specs.Record.{goodTime, goodDisc, goodFlags, shownSet, nmiOf, viewOf}
 use Rattle.board.specs.Registers.{command, written, clockTold, bootTold, discTold, drivenTold, bleeperTold}
 use Rattle.board.specs.Marks.{marked}
 use Rattle.board.proofs.Good.{both}

@@ -3,6 +3,7 @@ ghost use mathlib.Core.Path.{_≡_};
 ghost use Rattle.answers.specs.Steps.{taken};
 use answers::Step;
 use answers::Taken;
+use answers::accepts;
 use board::Board;
 
 pub fn take_disc_line(b: Board, on: bool, ram: &[u8], boot: &[u8]) -> Taken
@@ -11,12 +12,7 @@ pub fn take_disc_line(b: Board, on: bool, ram: &[u8], boot: &[u8]) -> Taken
     let line = on as u8;
     let mut after = b;
     after.disc.line = line;
-    Taken {
-        board: after,
-        byte: 0,
-        forwarded: false,
-        refusal: 0,
-    }
+    accepts(after, 0, false)
 }
 
 pub fn take_external_line(b: Board, on: bool, ram: &[u8], boot: &[u8]) -> Taken
@@ -25,10 +21,5 @@ pub fn take_external_line(b: Board, on: bool, ram: &[u8], boot: &[u8]) -> Taken
     let line = on as u8;
     let mut after = b;
     after.external = line;
-    Taken {
-        board: after,
-        byte: 0,
-        forwarded: false,
-        refusal: 0,
-    }
+    accepts(after, 0, false)
 }

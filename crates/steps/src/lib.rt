@@ -20,7 +20,7 @@ use writes::take_key;
 use writes::take_write;
 
 // What the kind takes, once record and buffers are found good.
-fn take(b: Board, s: Step, ram: &mut [u8], boot: &[u8]) -> Taken
+pub fn take(b: Board, s: Step, ram: &mut [u8], boot: &[u8]) -> Taken
     ensures { λ r. ⌜ (r ≡ taken b (now (ram .entry)) (now (boot .entry)) s) × (now (ram .exit) ≡ takenRam b (now (ram .entry)) (now (boot .entry)) s) ⌝ }
 {
     match s {

@@ -4,6 +4,8 @@ ghost use lib.ListN.{set};
 ghost use Rattle.answers.specs.Steps.{taken, takenRam};
 use answers::Step;
 use answers::Taken;
+use answers::accepts;
+use answers::refuses;
 use board::Board;
 use paging::byte_at;
 use paging::keyboard_place;
@@ -25,30 +27,19 @@ pub fn take_write(b: Board, address: u16, value: u8, ram: &mut [u8], boot: &[u8]
     // Lines are drawn from blocks 0 to 7: past them the record stays as it is, with no copy of it made.
     if at >= 131072 {
         put(ram, at, value);
-        return Taken {
-            board: b,
-            byte: 0,
-            forwarded: false,
-            refusal: 0,
-        };
+        return accepts(b, 0, false);
     }
     // So it does for an equal byte.
     if byte_at(ram, at) == value {
-        return Taken {
-            board: b,
-            byte: 0,
-            forwarded: false,
-            refusal: 0,
-        };
+        return accepts(b, 0, false);
     }
-    let stored = b.store(ram, at, value);
+    // A copy is lent to `store`, and only the dirty lines are taken back: the record itself stays where it is.
+    let stored = b.by_fields().store(ram, at, value);
+    let dirty = stored.dirty;
     put(ram, at, value);
-    Taken {
-        board: stored,
-        byte: 0,
-        forwarded: false,
-        refusal: 0,
-    }
+    let mut after = b;
+    after.dirty = dirty;
+    accepts(after, 0, false)
 }
 
 // A byte from the keyboard, at an offset from 0 to 15.
@@ -56,20 +47,13 @@ pub fn take_key(b: Board, offset: u8, value: u8, ram: &mut [u8], boot: &[u8]) ->
     ensures { λ r. ⌜ (r ≡ taken b (now (ram .entry)) (now (boot .entry)) (Step.Key offset value)) × (now (ram .exit) ≡ takenRam b (now (ram .entry)) (now (boot .entry)) (Step.Key offset value)) ⌝ }
 {
     if offset > 15 {
-        return Taken {
-            board: b,
-            byte: 0,
-            forwarded: false,
-            refusal: 3,
-        };
+        return refuses(b, 3);
     }
     let at = keyboard_place(offset);
-    let keyed = b.store(ram, at, value);
+    let keyed = b.by_fields().store(ram, at, value);
+    let dirty = keyed.dirty;
     put(ram, at, value);
-    Taken {
-        board: keyed,
-        byte: 0,
-        forwarded: false,
-        refusal: 0,
-    }
+    let mut after = b;
+    after.dirty = dirty;
+    accepts(after, 0, false)
 }

@@ -34,52 +34,82 @@ status-requires-2 c κs = search needs
 host-takes-requires : tie.Need-host-takes-requires
 host-takes-requires c κs = search needs
 
+accepts-requires : tie.Need-accepts-requires
+accepts-requires c κs = search needs
+
+accepts-requires-2 : tie.Need-accepts-requires-2
+accepts-requires-2 c κs = search needs
+
+accepts-requires-3 : tie.Need-accepts-requires-3
+accepts-requires-3 c κs = search needs
+
+accepts-requires-4 : tie.Need-accepts-requires-4
+accepts-requires-4 c κs = search needs
+
+refuses-requires : tie.Need-refuses-requires
+refuses-requires c κs = search needs
+
 returns : tie.Need-returns
 unfolding moved stored stepByte forwardedStep ownRefusal takenIn forwardedIn
 returns c =
-    let s = c .before .before .before in
-    let k : s .args .port ≡ 0x00 = c .match .keys1 in
-    plain-own (s .args .b) (now (s .args .ram)) (now (s .args .boot)) (PortIn (s .args .port)) _ _ _ (rw k) refl (words s) refl refl refl (rw k) (rw k) (rw k)
+    let d = c .before in
+    let s = d .before .before .before in
+    let k : s .args .port ≡ 0x00 = d .match .keys1 in
+    c .accepts .ensures
+    ∙ plain-own (s .args .b) (now (s .args .ram)) (now (s .args .boot)) (PortIn (s .args .port)) _ _ _ (rw k) refl (words s) refl refl refl (rw k) (rw k) (rw k)
 
 returns-2 : tie.Need-returns-2
 unfolding moved stored stepByte forwardedStep ownRefusal takenIn forwardedIn forwardedOut
 returns-2 c =
-    let s = c .before .before .before .before .before in
-    let k : s .args .port ≡ 0xF4 = c .before .before .match .keys2 in
-    plain-own (s .args .b) (now (s .args .ram)) (now (s .args .boot)) (PortIn (s .args .port)) _ _ _ (rw k) refl (words s) refl refl refl (rw k) (rw k (c .before .status .ensures)) (rw k)
+    let d = c .before in
+    let s = d .before .before .before .before .before in
+    let k : s .args .port ≡ 0xF4 = d .before .before .match .keys2 in
+    c .accepts2 .ensures
+    ∙ plain-own (s .args .b) (now (s .args .ram)) (now (s .args .boot)) (PortIn (s .args .port)) _ _ _ (rw k) refl (words s) refl refl refl (rw k) (rw k (d .before .status .ensures)) (rw k)
 
 returns-3 : tie.Need-returns-3
 unfolding moved stored stepByte forwardedStep ownRefusal takenIn forwardedIn forwardedOut
 returns-3 c =
-    let s = c .before .before .before .before in
-    let k : s .args .port ≡ 0xF8 = c .before .match .keys3 in
-    plain-own (s .args .b) (now (s .args .ram)) (now (s .args .boot)) (PortIn (s .args .port)) _ _ _ (rw k) refl (words s) refl refl refl (rw k) (rw k (c .status2 .ensures)) (rw k)
+    let d = c .before in
+    let s = d .before .before .before .before in
+    let k : s .args .port ≡ 0xF8 = d .before .match .keys3 in
+    c .accepts3 .ensures
+    ∙ plain-own (s .args .b) (now (s .args .ram)) (now (s .args .boot)) (PortIn (s .args .port)) _ _ _ (rw k) refl (words s) refl refl refl (rw k) (rw k (d .status2 .ensures)) (rw k)
 
 returns-4 : tie.Need-returns-4
 unfolding moved stored stepByte forwardedStep ownRefusal
 returns-4 c =
-    let s = c .before .before .before .before .before in
-    let m = c .before .before .match .rest in
-    let h : forwardedOut (s .args .port) ≡ true = sym (c .before .host-takes .ensures) ∙ c .if1 .taken in
+    let d = c .before in
+    let s = d .before .before .before .before .before in
+    let m = d .before .before .match .rest in
+    let h : forwardedOut (s .args .port) ≡ true = sym (d .before .host-takes .ensures) ∙ d .if1 .taken in
     let f4 = ne-eqb (s .args .port) 0xF4 (m .0 .1) in
     let f8 = ne-eqb (s .args .port) 0xF8 (m .1) in
-    plain-own (s .args .b) (now (s .args .ram)) (now (s .args .boot)) (PortIn (s .args .port)) _ _ _ (rw (in-host (s .args .port) (m .0 .0 .1) (m .0 .1) (m .1), h)) refl (words s) refl refl refl (rw f4) (rw (f4, f8)) (sym (in-forwarded (s .args .port) (m .0 .0 .1) ∙ h))
+    c .accepts4 .ensures
+    ∙ plain-own (s .args .b) (now (s .args .ram)) (now (s .args .boot)) (PortIn (s .args .port)) _ _ _ (rw (in-host (s .args .port) (m .0 .0 .1) (m .0 .1) (m .1), h)) refl (words s) refl refl refl (rw f4) (rw (f4, f8)) (sym (in-forwarded (s .args .port) (m .0 .0 .1) ∙ h))
 
 returns-5 : tie.Need-returns-5
 unfolding ownRefusal
 returns-5 c =
-    let s = c .before .before .before .before .before in
-    let m = c .before .before .match .rest in
-    let h : forwardedOut (s .args .port) ≡ false = sym (c .before .host-takes .ensures) ∙ c .if1 .left in
-    own-refused (s .args .b) (now (s .args .ram)) (now (s .args .boot)) (PortIn (s .args .port)) 5 (rw (in-host (s .args .port) (m .0 .0 .1) (m .0 .1) (m .1), h)) (λ (z : _≡_ {A = ℕ} 5 0). omega arith)
+    let d = c .before in
+    let s = d .before .before .before .before .before in
+    let m = d .before .before .match .rest in
+    let h : forwardedOut (s .args .port) ≡ false = sym (d .before .host-takes .ensures) ∙ d .if1 .left in
+    c .refuses .ensures
+    ∙ own-refused (s .args .b) (now (s .args .ram)) (now (s .args .boot)) (PortIn (s .args .port)) 5 (rw (in-host (s .args .port) (m .0 .0 .1) (m .0 .1) (m .1), h)) (λ (z : _≡_ {A = ℕ} 5 0). omega arith)
 
 pub take-port-in-spec : {M : Type 1} → statement M
 take-port-in-spec =
     tie.close
     (tie.spec
+    accepts-requires
     status-requires
+    accepts-requires-2
     status-requires-2
+    accepts-requires-3
     host-takes-requires
+    accepts-requires-4
+    refuses-requires
     returns
     returns-2
     returns-3

@@ -5,6 +5,7 @@ use denote.Ref.{now}
 use Prim.Native.Nat.{ℕ, _≤_}
 use native.Mathlib.Omega.{arith}
 use mathlib.Core.Bool.{Bool, true, false}
+use mathlib.Core.Logic.{⊎-elim}
 use lib.ListN.{getD}
 use mir.Val.{Fits}
 use mir.Syntax.{w64}
@@ -50,56 +51,72 @@ host e = sym (e .before .host-takes .ensures) ∙ e .if1 .left
 host-takes-requires : tie.Need-host-takes-requires
 host-takes-requires c κs = search needs
 
+accepts-requires : tie.Need-accepts-requires
+accepts-requires c κs = search needs
+
 returns : tie.Need-returns
 returns c =
-    let s = c .before .before .before .before in
-    let h : forwardedOut (s .args .port) ≡ true = sym (c .before .host-takes .ensures) ∙ c .if1 .taken in
-    idle s true (host-taken (s .args .port) h) (written-host (s .args .b) (s .args .port) (s .args .value) h) (sym h)
+    let d = c .before in
+    let s = d .before .before .before .before in
+    let h : forwardedOut (s .args .port) ≡ true = sym (d .before .host-takes .ensures) ∙ d .if1 .taken in
+    c .accepts .ensures
+    ∙ idle s true (host-taken (s .args .port) h) (written-host (s .args .b) (s .args .port) (s .args .value) h) (sym h)
 
 out-requires : tie.Need-out-requires
 out-requires c κs = search needs
 
+accepts-requires-2 : tie.Need-accepts-requires-2
+accepts-requires-2 c κs = search needs
+
 returns-2 : tie.Need-returns-2
 unfolding moved stored stepByte forwardedStep ownRefusal stepBoard
 returns-2 c =
-    let s = c .before .before .before .before .before .before .before in
+    let d = c .before in
+    let s = d .before .before .before .before .before .before .before in
     let lo : 0xF0 ≤ s .args .port = search needs in
     let hi : s .args .port ≤ 0xF8 = search needs in
-    let st : stepBoard (s .args .b) (now (s .args .ram)) (PortOut (s .args .port) (s .args .value)) ≡ c .out .result =
-    marked-dirtied (now (s .args .ram)) (s .args .b) (written (s .args .b) (s .args .port) (s .args .value)) (unfold written in refl) (unfold written in refl) ∙ sym (c .out .ensures) in
-    rw (← st, ← board-port (s .args .port) lo (omega arith)) (own-accepted (s .args .b) (now (s .args .ram)) (now (s .args .boot)) (PortOut (s .args .port) (s .args .value)) (rw (register-taken (s .args .port) lo hi)))
+    let st : stepBoard (s .args .b) (now (s .args .ram)) (PortOut (s .args .port) (s .args .value)) ≡ d .out .result =
+    marked-dirtied (now (s .args .ram)) (s .args .b) (written (s .args .b) (s .args .port) (s .args .value)) (unfold written in refl) (unfold written in refl) ∙ sym (d .out .ensures) in
+    c .accepts2 .ensures
+    ∙ rw (← st, ← board-port (s .args .port) lo (omega arith)) (own-accepted (s .args .b) (now (s .args .ram)) (now (s .args .boot)) (PortOut (s .args .port) (s .args .value)) (rw (register-taken (s .args .port) lo hi)))
+
+accepts-requires-3 : tie.Need-accepts-requires-3
+accepts-requires-3 c κs = search needs
 
 returns-3 : tie.Need-returns-3
 returns-3 c =
-    let s = c .before .before .before .before .before .before .before .before in
+    let d = c .before in
+    let s = d .before .before .before .before .before .before .before .before in
     let lo : 0xFA ≤ s .args .port = search needs in
     let hi : s .args .port ≤ 0xFB = search needs in
-    idle s false (idle-taken (s .args .port) lo hi) (written-past (s .args .b) (s .args .port) (s .args .value) (omega arith)) (sym (board-port (s .args .port) (omega arith) hi))
+    c .accepts3 .ensures
+    ∙ idle s false (idle-taken (s .args .port) lo hi) (written-past (s .args .b) (s .args .port) (s .args .value) (omega arith)) (sym (board-port (s .args .port) (omega arith) hi))
+
+refuses-requires : tie.Need-refuses-requires
+refuses-requires c κs = search needs
 
 returns-4 : tie.Need-returns-4
 returns-4 c =
-    let s = c .before .before .before .before .before in
-    none s (refused-below (s .args .port) (host (c .before)) (c .if2 .taken))
-
-returns-5 : tie.Need-returns-5
-returns-5 c =
-    let s = c .before .before .before .before .before .before .before in
-    none s (refused-between (s .args .port) (host (c .before .before .before)) (c .before .if3 .left) (c .if4 .taken))
-
-returns-6 : tie.Need-returns-6
-returns-6 c =
-    let s = c .before .before .before .before .before .before .before .before in
-    none s (refused-above (s .args .port) (host (c .before .before .before .before)) (c .if5 .left))
+    let e = c .before .before in
+    let s = e .before .before .before .before in
+    c .refuses .ensures
+    ∙ none s
+    (⊎-elim (λ w. refused-below (s .args .port) (host e) (w .taken))
+    (⊎-elim (λ w. refused-between (s .args .port) (host e) (w .1 .left) (w .2 .taken))
+    (λ w. refused-above (s .args .port) (host e) (w .3 .left)))
+    (c .before .if2 .came))
 
 pub take-port-out-spec : {M : Type 1} → statement M
 take-port-out-spec =
     tie.close
     (tie.spec
     host-takes-requires
+    accepts-requires
     returns
     out-requires
+    accepts-requires-2
+    accepts-requires-3
+    refuses-requires
     returns-2
     returns-3
-    returns-4
-    returns-5
-    returns-6)
+    returns-4)

@@ -31,23 +31,33 @@ read-place-requires c κs = search needs
 byte-at-requires : tie.Need-byte-at-requires
 byte-at-requires c κs = search needs
 
+accepts-requires : tie.Need-accepts-requires
+accepts-requires c κs = search needs
+
 returns : tie.Need-returns
 unfolding moved stored stepByte forwardedStep ownRefusal
 returns c =
-    let s = c .before .before .before .before .before .before .before in
-    let m : eqb (s .args .b .boot .mode) 1 ≡ false = ne-eqb (s .args .b .boot .mode) 1 (c .before .before .before .if1 .taken) in
-    plain-own (s .args .b) (now (s .args .ram)) (now (s .args .boot)) (Fetch (s .args .address)) _ _ _ (rw m) refl (words s) refl refl refl (rw m) (rw m (c .byte-at .ensures ∙ ap (λ (k : ℕ). getD (now (s .args .ram)) k 0) (c .before .read-place .ensures))) refl
+    let d = c .before in
+    let s = d .before .before .before .before .before .before .before in
+    let m : eqb (s .args .b .boot .mode) 1 ≡ false = ne-eqb (s .args .b .boot .mode) 1 (d .before .before .before .if1 .taken) in
+    c .accepts .ensures
+    ∙ plain-own (s .args .b) (now (s .args .ram)) (now (s .args .boot)) (Fetch (s .args .address)) _ _ _ (rw m) refl (words s) refl refl refl (rw m) (rw m (d .byte-at .ensures ∙ ap (λ (k : ℕ). getD (now (s .args .ram)) k 0) (d .before .read-place .ensures))) refl
 
 cast-at : tie.Need-cast-at
 cast-at c = search needs
 
+refuses-requires : tie.Need-refuses-requires
+refuses-requires c κs = search needs
+
 returns-2 : tie.Need-returns-2
 unfolding ownRefusal
 returns-2 c =
-    let s = c .before .before .before .before .before .before in
-    let m : eqb (s .args .b .boot .mode) 1 ≡ true = eq-eqb (s .args .b .boot .mode) 1 (c .before .before .if1 .left) in
-    let l : (leb (length (now (s .args .boot))) (s .args .b .boot .at) || leb 1024 (s .args .b .boot .at)) ≡ true = c .if2 .taken in
-    own-refused (s .args .b) (now (s .args .ram)) (now (s .args .boot)) (Fetch (s .args .address)) 4 (rw (m, l)) (λ (z : _≡_ {A = ℕ} 4 0). omega arith)
+    let d = c .before in
+    let s = d .before .before .before .before .before .before in
+    let m : eqb (s .args .b .boot .mode) 1 ≡ true = eq-eqb (s .args .b .boot .mode) 1 (d .before .before .if1 .left) in
+    let l : (leb (length (now (s .args .boot))) (s .args .b .boot .at) || leb 1024 (s .args .b .boot .at)) ≡ true = d .if2 .taken in
+    c .refuses .ensures
+    ∙ own-refused (s .args .b) (now (s .args .ram)) (now (s .args .boot)) (Fetch (s .args .address)) 4 (rw (m, l)) (λ (z : _≡_ {A = ℕ} 4 0). omega arith)
 
 -- a fetch that is taken stays in the stream
 within : (e : tie.Else2) → (e .before .before .before .before .before .before .args .b .boot .at < 1024) × (e .before .before .before .before .before .before .args .b .boot .at < length (now (e .before .before .before .before .before .before .args .boot)))
@@ -60,16 +70,21 @@ within e =
 add-next : tie.Need-add-next
 add-next c = let l = within (c .before) .0 in search needs
 
-shared-slice-read-t16 : tie.Need-shared-slice-read-t16
-shared-slice-read-t16 c = within (c .before .before .before) .1
+shared-slice-read-accepts : tie.Need-shared-slice-read-accepts
+shared-slice-read-accepts c = within (c .before .before .before) .1
+
+accepts-requires-2 : tie.Need-accepts-requires-2
+accepts-requires-2 c κs = search needs
 
 returns-3 : tie.Need-returns-3
 unfolding moved stored stepByte forwardedStep ownRefusal
 returns-3 c =
-    let s = c .before .before .before .before .before .before .before .before .before in
-    let m : eqb (s .args .b .boot .mode) 1 ≡ true = eq-eqb (s .args .b .boot .mode) 1 (c .before .before .before .before .before .if1 .left) in
-    let l : (leb (length (now (s .args .boot))) (s .args .b .boot .at) || leb 1024 (s .args .b .boot .at)) ≡ false = c .before .before .before .if2 .left in
-    plain-own (s .args .b) (now (s .args .ram)) (now (s .args .boot)) (Fetch (s .args .address)) _ _ _ (rw (m, l)) refl (words s) refl refl refl (rw m) (rw m) refl
+    let d = c .before in
+    let s = d .before .before .before .before .before .before .before .before .before in
+    let m : eqb (s .args .b .boot .mode) 1 ≡ true = eq-eqb (s .args .b .boot .mode) 1 (d .before .before .before .before .before .if1 .left) in
+    let l : (leb (length (now (s .args .boot))) (s .args .b .boot .at) || leb 1024 (s .args .b .boot .at)) ≡ false = d .before .before .before .if2 .left in
+    c .accepts2 .ensures
+    ∙ plain-own (s .args .b) (now (s .args .ram)) (now (s .args .boot)) (Fetch (s .args .address)) _ _ _ (rw (m, l)) refl (words s) refl refl refl (rw m) (rw m) refl
 
 pub take-fetch-spec : {M : Type 1} → statement M
 take-fetch-spec =
@@ -77,9 +92,12 @@ take-fetch-spec =
     (tie.spec
     read-place-requires
     byte-at-requires
+    accepts-requires
     returns
     cast-at
+    refuses-requires
     returns-2
     add-next
-    shared-slice-read-t16
+    shared-slice-read-accepts
+    accepts-requires-2
     returns-3)

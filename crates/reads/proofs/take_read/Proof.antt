@@ -26,11 +26,16 @@ read-place-requires c κs = search needs
 byte-at-requires : tie.Need-byte-at-requires
 byte-at-requires c κs = search needs
 
+accepts-requires : tie.Need-accepts-requires
+accepts-requires c κs = search needs
+
 returns : tie.Need-returns
 unfolding moved stored stepByte forwardedStep ownRefusal
 returns c =
-    let s = c .before .before .before .before .before in
-    plain-own (s .args .b) (now (s .args .ram)) (now (s .args .boot)) (Read (s .args .address)) _ _ _ refl refl (words s) refl refl refl refl (c .byte-at .ensures ∙ ap (λ (k : ℕ). getD (now (s .args .ram)) k 0) (c .before .read-place .ensures)) refl
+    let d = c .before in
+    let s = d .before .before .before .before .before in
+    c .accepts .ensures
+    ∙ plain-own (s .args .b) (now (s .args .ram)) (now (s .args .boot)) (Read (s .args .address)) _ _ _ refl refl (words s) refl refl refl refl (d .byte-at .ensures ∙ ap (λ (k : ℕ). getD (now (s .args .ram)) k 0) (d .before .read-place .ensures)) refl
 
 pub take-read-spec : {M : Type 1} → statement M
 take-read-spec =
@@ -38,4 +43,5 @@ take-read-spec =
     (tie.spec
     read-place-requires
     byte-at-requires
+    accepts-requires
     returns)

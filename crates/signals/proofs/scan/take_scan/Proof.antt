@@ -1,6 +1,6 @@
 -- The record as the scan leaves it; nothing is marked.
 -- Assumes nothing.
-use mathlib.Core.Path.{refl}
+use mathlib.Core.Path.{refl, _∙_}
 use denote.Ref.{now}
 use Prim.Native.Nat.{ℕ}
 use lib.ListN.{getD}
@@ -23,15 +23,21 @@ words s = record { four = search needs; small = λ j. fits s j .fits }
 scan-requires : tie.Need-scan-requires
 scan-requires c κs = search needs
 
+accepts-requires : tie.Need-accepts-requires
+accepts-requires c κs = search needs
+
 returns : tie.Need-returns
 unfolding moved stored stepByte forwardedStep ownRefusal
 returns c =
-    let s = c .before .before .before in
-    plain-own (s .args .b) (now (s .args .ram)) (now (s .args .boot)) Scan _ _ _ refl refl (words s) refl refl refl (c .scan .ensures) refl refl
+    let d = c .before in
+    let s = d .before .before .before in
+    c .accepts .ensures
+    ∙ plain-own (s .args .b) (now (s .args .ram)) (now (s .args .boot)) Scan _ _ _ refl refl (words s) refl refl refl (d .scan .ensures) refl refl
 
 pub take-scan-spec : {M : Type 1} → statement M
 take-scan-spec =
     tie.close
     (tie.spec
     scan-requires
+    accepts-requires
     returns)

@@ -2,16 +2,15 @@
 -- Assumes nothing.
 use Prim.Native.Nat.{ℕ}
 use mathlib.Core.Path.{_≡_, sym, _∙_, ap}
-use mathlib.Core.Bool.{true, _||_}
+use mathlib.Core.Bool.{true}
 use borrow.Author.Tests.{not-true, not-false}
 use lib.ListN.{getD}
 use mir.Val.{Fits}
 use mir.Syntax.{w64}
 use Rattle.lineset.specs.declared.LineSet.{LineSet}
-use Rattle.lineset.specs.Lines.{setOf, member}
 use Rattle.lineset.proofs.Sets.{Words}
 use Rattle.board.proofs.Marking.{dirtied-none, dirtied-shown}
-use Rattle.board.specs.Record.{withDirty, shownSet}
+use Rattle.board.specs.Record.{withDirty}
 use Rattle.parts.specs.Parts.{videoDiffers}
 use borrow.Author.Needs.{needs}
 use Rattle.board.proofs.record.Board.dirty_video.Statement.{statement}
@@ -31,22 +30,16 @@ returns c =
     let s = c .before .before in
     sym (dirtied-none (s .args .self) (words s) (s .args .before) (sym (c .before .video-differs .ensures) ∙ not-true (c .before .video-differs .result) (c .if1 .taken)))
 
-shown-requires : tie.Need-shown-requires
-shown-requires c κs = search needs
-
-union-requires : tie.Need-union-requires
-union-requires c κs = search needs
+with-shown-requires : tie.Need-with-shown-requires
+with-shown-requires c κs = search needs
 
 returns-2 : tie.Need-returns-2
-unfolding shownSet
 returns-2 c =
-    let s = c .before .before .before .before .before in
+    let s = c .before .before .before .before in
     let differs : videoDiffers (s .args .before) (s .args .self .video) ≡ true =
-    sym (c .before .before .before .before .video-differs .ensures) ∙ not-false (c .before .before .before .before .video-differs .result) (c .before .before .before .if1 .left) in
-    ap (λ (d : LineSet). withDirty (s .args .self) d)
-    (c .union .ensures ∙ ap (λ (t : LineSet). setOf (λ (L : ℕ). member (s .args .self .dirty) L || member t L)) (c .before .shown .ensures))
-    ∙ dirtied-shown (s .args .self) (s .args .before) differs
+    sym (c .before .before .before .video-differs .ensures) ∙ not-false (c .before .before .before .video-differs .result) (c .before .before .if1 .left) in
+    ap (λ (d : LineSet). withDirty (s .args .self) d) (c .with-shown .ensures) ∙ dirtied-shown (s .args .self) (s .args .before) differs
 
 pub dirty-video-spec : {M : Type 1} → statement M
 dirty-video-spec =
-    tie.close (tie.spec video-differs-requires returns shown-requires union-requires returns-2)
+    tie.close (tie.spec video-differs-requires returns with-shown-requires returns-2)

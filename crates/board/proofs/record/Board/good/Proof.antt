@@ -1,6 +1,10 @@
 -- The tests are those of `good`, in its order.
 -- Assumes nothing.
-use Rattle.board.specs.Record.{good, goodRate}
+use mathlib.Core.Path.{_≡_, ap}
+use mathlib.Core.Bool.{Bool, true, _&&_}
+use Rattle.paging.specs.Memory.{allowed}
+use Rattle.board.specs.Record.{good, goodRate, goodTime, goodDisc, goodFlags}
+use Rattle.board.proofs.Good.{under}
 use borrow.Author.Needs.{needs}
 use Rattle.board.proofs.record.Board.good.Statement.{statement}
 use Rattle.board.proofs.record.Board.good.Tie as tie
@@ -11,8 +15,8 @@ allowed-requires c κs = search needs
 good-time-requires : tie.Need-good-time-requires
 good-time-requires c κs = search needs
 
-is-good-requires : tie.Need-is-good-requires
-is-good-requires c κs = search needs
+good-disc-requires : tie.Need-good-disc-requires
+good-disc-requires c κs = search needs
 
 good-flags-requires : tie.Need-good-flags-requires
 good-flags-requires c κs = search needs
@@ -22,7 +26,11 @@ good-dirty-requires c κs = search needs
 
 returns : tie.Need-returns
 unfolding good goodRate
-returns c = rw (c .before .before .before .before .before .before .allowed .ensures, c .before .before .before .good-time .ensures, c .before .before .is-good .ensures, c .before .good-flags .ensures, c .good-dirty .ensures)
+returns c =
+    let b = c .before .before .before .before .before .before .before .before .args .self in
+    rw (c .before .before .before .before .before .before .allowed .ensures, c .before .before .before .good-time .ensures, c .before .before .good-disc .ensures, c .before .good-flags .ensures)
+    (ap (λ (t : Bool). allowed (b .sizes) && t)
+    (under (goodRate (b .rate)) _ _ (λ (r : goodRate (b .rate) ≡ true). ap (λ (t : Bool). goodTime b && (goodDisc (b .disc) && (goodFlags b && t))) (c .good-dirty .ensures r))))
 
 pub good-spec : {M : Type 1} → statement M
 good-spec =
@@ -30,7 +38,7 @@ good-spec =
     (tie.spec
     allowed-requires
     good-time-requires
-    is-good-requires
+    good-disc-requires
     good-flags-requires
     good-dirty-requires
     returns)
