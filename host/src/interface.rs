@@ -30,7 +30,19 @@ impl Machine for Interface {
         let [f0, f1, f2, f3] = on.maps;
         // SAFETY: the board is a live record of the layout of the C interface.
         Reply(unsafe {
-            (self.power_on)(board, on.sizes.internal, on.sizes.total, on.rate, f0, f1, f2, f3, on.lock, on.table, on.top)
+            (self.power_on)(
+                board,
+                on.sizes.internal,
+                on.sizes.total,
+                on.rate,
+                f0,
+                f1,
+                f2,
+                f3,
+                on.lock,
+                on.table,
+                on.top,
+            )
         })
     }
 

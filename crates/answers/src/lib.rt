@@ -80,7 +80,7 @@ fn accepted(b: Board, byte: u8, forwarded: bool) -> Answer
 {
     let int = int_line(b);
     let nmi = nmi_line(b);
-    let mut board = b;
+    let mut board = b.by_fields();
     if nmi {
         board.disc.route = 0;
     }

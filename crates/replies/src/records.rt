@@ -42,7 +42,7 @@ pub fn replied(
 {
     let a = stepped(b, kind, number, value, ram, boot);
     let flags = a.int as u8 + (2 * a.nmi as u8 + 4 * a.forwarded as u8);
-    let board = a.board.by_fields();
+    let board = a.board;
     let word = reply(a.byte as u16, flags, a.refusal, 0);
     Returned { board, word }
 }

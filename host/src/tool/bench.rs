@@ -8,7 +8,7 @@ use joyce::machine::{Machine, Model, Numbers};
 use joyce::model::{Ask, PowerOn};
 use joyce::model_c::MODEL;
 use joyce::record::{Board, Lines, Paging, Sizes, BLOCK, PICTURE};
-use std::time::Duration;
+use std::time::{Duration, Instant};
 
 type Outcome = Result<(), String>;
 /// The library's nanoseconds.
@@ -56,16 +56,19 @@ struct Bench<'m> {
 impl Bench<'_> {
     /// Times the work on each machine from a copy of the same bed.
     fn row(&self, name: &str, bed: &Bed, work: impl Fn(&dyn Machine, &mut Bed, u64)) -> Timed {
-        let time = |machine: &dyn Machine| {
-            let machine = black_box(machine);
-            let mut bed = bed.clone();
-            let mut turn = 0;
-            nanoseconds(self.budget, || {
-                turn += 1;
-                work(machine, &mut bed, turn);
-            })
-        };
-        let (library, model, inlined) = (time(self.library), time(&MODEL), time(&Model));
+        let machines: [&dyn Machine; 3] = [self.library, &MODEL, &Model];
+        let mut beds = [bed.clone(), bed.clone(), bed.clone()];
+        let mut turns = [0; 3];
+        let [library, model, inlined] = nanoseconds(self.budget, |which, calls| {
+            let (machine, bed) = (black_box(machines[which]), &mut beds[which]);
+            let first = turns[which] + 1;
+            turns[which] += calls;
+            let start = Instant::now();
+            for turn in first..first + calls {
+                work(machine, bed, turn);
+            }
+            start.elapsed()
+        });
         out::line(&format!("{name:<44}{library:>11.1}{model:>11.1}{:>8.2}{inlined:>11.1}", library / model))?;
         Ok(library)
     }

@@ -14,21 +14,26 @@ int-line-requires c κs = search needs
 nmi-line-requires : tie.Need-nmi-line-requires
 nmi-line-requires c κs = search needs
 
+by-fields-requires : tie.Need-by-fields-requires
+by-fields-requires c κs = search needs
+
 returns : tie.Need-returns
 unfolding acceptedAnswer settled
 returns c =
-    let s = c .before .before .before .before in
-    let n = c .before .before .nmi-line .ensures in
+    let k = c .before .before in
+    let s = k .before .before .before in
+    let n = k .before .nmi-line .ensures in
     let t : nmiOf (s .args .b) ≡ true = sym n ∙ c .before .if1 .taken in
-    rw (c .before .before .before .int-line .ensures, n, t)
+    rw (k .by-fields .ensures, k .before .before .int-line .ensures, n, t)
 
 returns-2 : tie.Need-returns-2
 unfolding acceptedAnswer settled
 returns-2 c =
-    let s = c .before .before .before in
-    let n = c .before .nmi-line .ensures in
+    let k = c .before in
+    let s = k .before .before .before in
+    let n = k .before .nmi-line .ensures in
     let t : nmiOf (s .args .b) ≡ false = sym n ∙ c .if1 .left in
-    rw (c .before .before .int-line .ensures, n, t)
+    rw (k .by-fields .ensures, k .before .before .int-line .ensures, n, t)
 
 pub accepted-spec : {M : Type 1} → statement M
-accepted-spec = tie.close (tie.spec int-line-requires nmi-line-requires returns returns-2)
+accepted-spec = tie.close (tie.spec int-line-requires nmi-line-requires by-fields-requires returns returns-2)

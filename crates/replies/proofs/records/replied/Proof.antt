@@ -37,9 +37,6 @@ add-flags c = let a = c .before .before .before .before .before .stepped .result
 add-flags-2 : tie.Need-add-flags-2
 add-flags-2 c = let a = c .before .before .before .before .before .stepped .result in omega (arith, few (a .int), few (a .nmi), few (a .forwarded))
 
-by-fields-requires : tie.Need-by-fields-requires
-by-fields-requires c κs = search needs
-
 cast-reply : tie.Need-cast-reply
 cast-reply c = search needs
 
@@ -53,7 +50,7 @@ returns : tie.Need-returns
 unfolding stepReply
 returns c =
     let e = c .before .before .before .before .before .before .before .before in
-    (rw (c .reply .ensures, c .before .before .by-fields .ensures, e .stepped .ensures .0), e .stepped .ensures .1)
+    (rw (c .reply .ensures, e .stepped .ensures .0), e .stepped .ensures .1)
 
 pub replied-spec : {M : Type 1} → statement M
 replied-spec =
@@ -67,7 +64,6 @@ replied-spec =
     mul-flags-2
     add-flags
     add-flags-2
-    by-fields-requires
     cast-reply
     reply-requires
     same-length
