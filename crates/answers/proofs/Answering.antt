@@ -5,7 +5,7 @@ use native.Mathlib.Omega.{arith}
 use mathlib.Core.Path.{_≡_, refl, sym, _∙_, ap}
 use mathlib.Core.Bool.{Bool, true, false, cond, _&&_}
 use mathlib.Core.List.{List}
-use borrow.Author.Tests.{ne-eqb, leb-true, eqb-true}
+use borrow.Author.Tests.{ne-eqb, leb-true, eqb-true, eqb-false}
 use lib.Dec.{eqb, leb}
 use lib.ListN.{length}
 use Rattle.lineset.proofs.Sets.{Words}
@@ -15,6 +15,7 @@ use Rattle.board.specs.Marks.{marked}
 use Rattle.board.proofs.Good.{both}
 use Rattle.board.proofs.Marking.{marked-none}
 use Rattle.answers.specs.declared.Step.{Step}
+use Rattle.answers.specs.declared.Taken.{Taken}
 use Rattle.answers.specs.Steps.{moved, stored, stepByte, forwardedStep, lentRefusal, ownRefusal, stepRefusal, stepBoard, acceptedAnswer, refusedAnswer, stepAnswer, stepRam, accepts, refuses, taken, takenRam, answerOf}
 
 module _ (b : Board) (ram boot : List ℕ) (s : Step) where
@@ -58,6 +59,15 @@ module _ (b : Board) (ram boot : List ℕ) (s : Step) where
   pub step-kept : (n : ℕ) → lentRefusal b (length ram) (length boot) ≡ n → (n ≡ 0 → ⊥) → ram ≡ stepRam b ram boot s
   unfolding stepRam stepRefusal
   step-kept n e ne = rw (e, ne-eqb n 0 ne, ne-eqb n 0 ne)
+
+  -- either of the two
+  pub step-either : (n : ℕ) (t : Taken) → n ≡ lentRefusal b (length ram) (length boot) → t ≡ taken b ram boot s
+      → cond (eqb n 0) (answerOf t) (refusedAnswer b n) ≡ stepAnswer b ram boot s
+  step-either n t e f = go (eqb n 0) refl
+    where
+      go : (u : Bool) → eqb n 0 ≡ u → cond u (answerOf t) (refusedAnswer b n) ≡ stepAnswer b ram boot s
+      go true g = ap answerOf f ∙ step-own (sym e ∙ eqb-true n 0 g)
+      go false g = step-refused n (sym e) (eqb-false n 0 g)
 
   -- a step that keeps RAM and registers marks nothing
   pub plain : stored b s ram ≡ ram → Words (b .dirty) → moved b s .dirty ≡ b .dirty → moved b s .rate ≡ b .rate → moved b s .video ≡ b .video → stepBoard b ram s ≡ moved b s

@@ -54,6 +54,37 @@ not-dirty b g w L l = go (ltb L 256) refl
     go true e = inner (member (b .dirty) L) refl (ltb-true L 256 e)
     go false e = member-out (b .dirty) w L (ltb-false L 256 e)
 
+-- ---- the record that a refresh returns
+
+cleared-good : (b : Board) → good b ≡ true → good (withDirty b (setOf (λ (L : ℕ). false))) ≡ true
+cleared-good b g =
+    let p = good-parts b g in
+    parts-good (withDirty b (setOf (λ (L : ℕ). false)))
+    (record {
+      sizes = p .sizes;
+      rate = p .rate;
+      time = unfold goodTime in p .time;
+      disc = p .disc;
+      flags = unfold goodFlags in p .flags;
+      dirty = inside-all (setOf (λ (L : ℕ). false)) (b .rate) (λ L l e. absurd (true≢false (sym e ∙ none-member L)));
+    })
+
+pub refresh-good : (b : Board) (ram picture : List ℕ) → good b ≡ true → good (refreshAnswer b ram picture .board) ≡ true
+unfolding refreshAnswer
+refresh-good b ram picture g = go (eqb (pictureRefusal b (length ram) (length picture)) 0) refl
+  where
+    go : (t : Bool) → eqb (pictureRefusal b (length ram) (length picture)) 0 ≡ t → good (refreshAnswer b ram picture .board) ≡ true
+    go true e = rw e (cleared-good b g)
+    go false e = rw e g
+
+pub refresh-clock : (b : Board) (ram picture : List ℕ) → refreshAnswer b ram picture .board .clock ≡ b .clock
+unfolding refreshAnswer
+refresh-clock b ram picture = go (eqb (pictureRefusal b (length ram) (length picture)) 0) refl
+  where
+    go : (t : Bool) → eqb (pictureRefusal b (length ram) (length picture)) 0 ≡ t → refreshAnswer b ram picture .board .clock ≡ b .clock
+    go true e = rw e
+    go false e = rw e
+
 -- ---- refusals
 
 -- the refusal number of a refresh on a good record, and the length of a picture that is accepted
@@ -143,19 +174,6 @@ module _ (alone : Bool) (start : List ℕ) (m : Machine) (h : Holds alone start 
           List·getD-eq-default (painted (member (m .board .dirty)) (viewOf (m .board) (m .ram)) (m .picture)) 0 {n = k} (omega arith)
           ∙ sym (List·getD-eq-default (m .picture) 0 {n = k} n)
 
-  cleared-good : good (withDirty (m .board) (setOf (λ (L : ℕ). false))) ≡ true
-  cleared-good =
-      let p = good-parts (m .board) (h .good-board) in
-      parts-good (withDirty (m .board) (setOf (λ (L : ℕ). false)))
-      (record {
-        sizes = p .sizes;
-        rate = p .rate;
-        time = unfold goodTime in p .time;
-        disc = p .disc;
-        flags = unfold goodFlags in p .flags;
-        dirty = inside-all (setOf (λ (L : ℕ). false)) (m .board .rate) (λ L l e. absurd (true≢false (sym e ∙ none-member L)));
-      })
-
   pub refresh-holds : Holds alone start (redrawn m)
   refresh-holds = go (eqb (refreshRefused (mirror (m .board) (m .ram)) (length (m .picture))) 0) refl
     where
@@ -164,7 +182,7 @@ module _ (alone : Bool) (start : List ℕ) (m : Machine) (h : Holds alone start 
           let e = eqb-true _ 0 f in
           let eb = board-accepted e in
           record {
-            good-board = ap good eb ∙ cleared-good;
+            good-board = ap good eb ∙ cleared-good (m .board) (h .good-board);
             words = rw eb (words-set _);
             size = λ u. ap length (left-accepted e) ∙ painted-length (member (m .board .dirty)) (viewOf (m .board) (m .ram)) (m .picture) ∙ h .size u;
             outside = λ u k l. kept-outside u e k (rw eb at l);

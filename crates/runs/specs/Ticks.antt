@@ -14,12 +14,8 @@ use Rattle.parts.specs.Parts.{nextBeam, ticks}
 use Rattle.board.specs.Registers.{command}
 use Rattle.answers.specs.declared.Step.{Step}
 use Rattle.answers.specs.declared.Step.the-variants.{Fetch, Read, Write, PortIn, PortOut, Scan, Key, DiscLine, ExternalLine}
-use Rattle.answers.specs.Steps.{stepRefusal, stepAnswer, stepRam}
-
--- a step and the boot stream lent to it
-pub record Call : Type 0 where
-  pub step : Step
-  pub boot : List ℕ
+use Rattle.answers.specs.Steps.{stepRefusal}
+use Rattle.runs.specs.Events.{Event, step, refresh, others, Machine, stepped, redrawn}
 
 -- what one accepted step adds to each part of the account
 unfoldable pub landed : Board → Step → ℕ
@@ -69,22 +65,24 @@ thrown b (Key offset value) = 0
 thrown b (DiscLine on) = 0
 thrown b (ExternalLine on) = 0
 
--- a list of calls, each from the record that the one before returned, on the RAM that it left: the sum of what the accepted ones add
-unfoldable pub total : (Board → Step → ℕ) → Board → List ℕ → List Call → ℕ
-total part b ram [] = 0
-total part b ram (c ∷ cs) =
-    cond (eqb (stepRefusal b ram (c .boot) (c .step)) 0) (part b (c .step)) 0
-    + total part (stepAnswer b ram (c .boot) (c .step) .board) (stepRam b ram (c .boot) (c .step)) cs
+-- over a list of events: the sum of what the accepted steps add. Refreshes, and others who write on the picture, add nothing.
+unfoldable pub total : (Board → Step → ℕ) → Machine → List Event → ℕ
+total part m [] = 0
+total part m (step s boot ∷ es) = cond (eqb (stepRefusal (m .board) (m .ram) boot s) 0) (part (m .board) s) 0 + total part (stepped m s boot) es
+total part m (refresh ∷ es) = total part (redrawn m) es
+total part m (others picture ∷ es) = total part (record { board = m .board; ram = m .ram; picture = picture }) es
 
--- the record at the end
-unfoldable pub last : Board → List ℕ → List Call → Board
-last b ram [] = b
-last b ram (c ∷ cs) = last (stepAnswer b ram (c .boot) (c .step) .board) (stepRam b ram (c .boot) (c .step)) cs
+-- the machine at the end
+unfoldable pub last : Machine → List Event → Machine
+last m [] = m
+last m (step s boot ∷ es) = last (stepped m s boot) es
+last m (refresh ∷ es) = last (redrawn m) es
+last m (others picture ∷ es) = last (record { board = m .board; ram = m .ram; picture = picture }) es
 
--- the account, from every accepted power-on, on every RAM, over every list of calls
+-- the account, from every accepted power-on, with any RAM and any picture, over every list of events
 abbrev pub TickAccount : Type 0
 TickAccount =
-    (sizes : Sizes) (rate : ℕ) (paging : Paging) (table top : ℕ) (ram : List ℕ) (calls : List Call)
+    (sizes : Sizes) (rate : ℕ) (paging : Paging) (table top : ℕ) (ram picture : List ℕ) (events : List Event)
     → startRefusal sizes rate ≡ 0
-    → (let b = started sizes rate paging table top .board in
-    total landed b ram calls ≡ total handed b ram calls + last b ram calls .clock .counter + total found b ram calls + total thrown b ram calls)
+    → (let m : Machine = record { board = started sizes rate paging table top .board; ram = ram; picture = picture } in
+    total landed m events ≡ total handed m events + last m events .board .clock .counter + total found m events + total thrown m events)
