@@ -5,10 +5,11 @@ use mathlib.Core.Path.{_≡_, refl}
 use mathlib.Core.List.{List, _∷_, []}
 use lib.ListN.{set}
 use Rattle.paging.specs.declared.Paging.{Paging}
-use Rattle.paging.specs.Memory.{bankOf, placeOf, mapWrite, writeBlock, writePlace}
+use Rattle.paging.specs.Memory.{bankOf, placeOf, writeBlock, writePlace}
+use Rattle.memory.specs.Maps.{mapWrite}
 use Rattle.board.specs.declared.record.Board.{Board}
 use Rattle.answers.specs.declared.Step.the-variants.{Write, PortIn}
-use Rattle.answers.specs.Steps.{moved, stored}
+use Rattle.answers.specs.Steps.{moved, stored, refusedAnswer}
 
 -- reading F8 leaves the counter; reading F4 clears it
 f8-keeps : (b : Board) → moved b (PortIn 0xF8) .clock .counter ≡ b .clock .counter
@@ -26,3 +27,8 @@ split = record { maps = 0x12 ∷ 0x12 ∷ 0x12 ∷ 0x12 ∷ []; lock = 0 }
 split-write : (b : Board) (ram : List ℕ) (x : ℕ) → b .paging ≡ split → stored b (Write 0x4000 x) ram ≡ set ram 32768 x
 unfolding stored writePlace writeBlock mapWrite bankOf placeOf
 split-write b ram x e = rw e refl
+
+-- a refusal returns the record given
+refused-kept : (b : Board) (number : ℕ) → refusedAnswer b number .board ≡ b
+unfolding refusedAnswer
+refused-kept b number = refl

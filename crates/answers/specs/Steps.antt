@@ -5,7 +5,8 @@ use mathlib.Core.List.{List}
 use lib.Dec.{eqb, leb}
 use lib.ListN.{getD, set, length}
 use mir.Val.{boolByte}
-use Rattle.paging.specs.Memory.{readPlace, writePlace, keyboardPlace}
+use Rattle.paging.specs.Memory.{readPlace, writePlace}
+use Rattle.memory.specs.Maps.{keyboardPlace}
 use Rattle.board.specs.Marks.{marked}
 use Rattle.board.specs.declared.record.Board.{Board}
 use Rattle.answers.specs.declared.Answer.{Answer}

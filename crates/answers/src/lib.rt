@@ -1,7 +1,6 @@
-// What a step is given and what it answers; the interrupt lines, and the two forms of an answer.
+// What a step is given and what it answers; record and buffers checked, and what a kind accepts or refuses with.
 ghost use mathlib.Core.Path.{_≡_};
-ghost use Rattle.board.specs.Record.{intOf, nmiOf};
-ghost use Rattle.answers.specs.Steps.{acceptedAnswer, refusedAnswer, answerOf, lentRefusal};
+ghost use Rattle.answers.specs.Steps.{lentRefusal};
 ghost use Rattle.answers.specs.Steps.{accepts as Steps·accepts, refuses as Steps·refuses};
 use board::Board;
 
@@ -59,66 +58,6 @@ pub fn refuses(b: Board, refusal: u8) -> Taken
         byte: 0,
         forwarded: false,
         refusal,
-    }
-}
-
-fn int_line(b: Board) -> bool
-    ensures { λ r. ⌜ r ≡ intOf b ⌝ }
-{
-    !(b.clock.counter == 0) | ((b.external == 1) | ((b.disc.line == 1) & (b.disc.route == 2)))
-}
-
-fn nmi_line(b: Board) -> bool
-    ensures { λ r. ⌜ r ≡ nmiOf b ⌝ }
-{
-    (b.disc.route == 1) & (b.disc.line == 1)
-}
-
-// An accepted step's answer: an NMI is shown once, and then the route is none.
-fn accepted(b: Board, byte: u8, forwarded: bool) -> Answer
-    ensures { λ r. ⌜ r ≡ acceptedAnswer b byte forwarded ⌝ }
-{
-    let int = int_line(b);
-    let nmi = nmi_line(b);
-    let mut board = b.by_fields();
-    if nmi {
-        board.disc.route = 0;
-    }
-    Answer {
-        board,
-        byte,
-        int,
-        nmi,
-        forwarded,
-        refusal: 0,
-    }
-}
-
-// A refused step's answer: the record given, and its lines, which are off where it is not good.
-pub fn refused(b: Board, number: u8) -> Answer
-    ensures { λ r. ⌜ r ≡ refusedAnswer b number ⌝ }
-{
-    let int = int_line(b);
-    let nmi = nmi_line(b);
-    let known = !(number == 1);
-    Answer {
-        board: b,
-        byte: 0,
-        int: known & int,
-        nmi: known & nmi,
-        forwarded: false,
-        refusal: number,
-    }
-}
-
-// The answer of what a kind took.
-pub fn answered(t: Taken) -> Answer
-    ensures { λ r. ⌜ r ≡ answerOf t ⌝ }
-{
-    if t.refusal == 0 {
-        accepted(t.board, t.byte, t.forwarded)
-    } else {
-        refused(t.board, t.refusal)
     }
 }
 

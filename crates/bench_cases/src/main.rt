@@ -1,8 +1,8 @@
 // Runs the bench cases of document 01 through the public functions and prints what they give: numbers in hex, and of a roll
 // whether it is as said. That the rules give what is said is shown in crate `cases`.
 use board::Board;
+use memory::Sizes;
 use paging::Paging;
-use paging::Sizes;
 use scanline::Pointer;
 use steps::Step;
 
@@ -24,8 +24,8 @@ fn block(n: u8) {
 fn map_case(label: &[u8], internal: u8, total: u8, map: u8) {
     let sizes = Sizes { internal, total };
     text(label);
-    block(paging::map_read(sizes, false, map));
-    block(paging::map_write(sizes, map));
+    block(memory::map_read(sizes, false, map));
+    block(memory::map_write(sizes, map));
     text(b"\n");
 }
 

@@ -6,7 +6,7 @@ use mathlib.Core.Bool.{Bool, true, false, _&&_, true≢false}
 use borrow.Author.Tests.{leb-true}
 use lib.Dec.{leb}
 use Rattle.lineset.specs.Lines.{inside}
-use Rattle.paging.specs.Memory.{allowed}
+use Rattle.memory.specs.Maps.{allowed}
 use Rattle.board.specs.declared.record.Board.{Board}
 use Rattle.board.specs.Record.{good, goodRate, goodTime, goodDisc, goodFlags, shownSet}
 

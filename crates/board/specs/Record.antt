@@ -5,7 +5,7 @@ use mathlib.Core.List.{List}
 use lib.Dec.{eqb, ltb, leb}
 use Rattle.lineset.specs.declared.LineSet.{LineSet}
 use Rattle.lineset.specs.Lines.{setOf, inside, shownLines}
-use Rattle.paging.specs.Memory.{allowed}
+use Rattle.memory.specs.Maps.{allowed}
 use Rattle.scanline.specs.Drawing.{View}
 use Rattle.parts.specs.Parts.{frame}
 use Rattle.board.specs.declared.record.Board.{Board}

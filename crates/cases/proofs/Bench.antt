@@ -1,7 +1,8 @@
 -- Every bench case, by computing.
 -- Assumes nothing.
 use mathlib.Core.Path.{refl}
-use Rattle.paging.specs.Memory.{bankOf, placeOf, lockWeight, locked, expansion, mapWrite, mapRead, readBlock, writeBlock}
+use Rattle.paging.specs.Memory.{bankOf, placeOf, lockWeight, locked, readBlock, writeBlock}
+use Rattle.memory.specs.Maps.{expansion, mapWrite, mapRead}
 use Rattle.pointers.specs.Pointers.{tablePlace, entryOf, pointerOf}
 use Rattle.panel.specs.Roll.{rollOf, nearest}
 use Rattle.panel.specs.Widen.{pixelOf, digits, byteOf, doubledByte}

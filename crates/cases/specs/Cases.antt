@@ -4,9 +4,10 @@ use mathlib.Core.Path.{_≡_}
 use mathlib.Core.Bool.{false}
 use mathlib.Core.List.{List, [], _∷_, _++_}
 use lib.IntN.{ℤ, pos, _-ℤ_}
-use Rattle.paging.specs.declared.Sizes.{Sizes}
+use Rattle.memory.specs.declared.Sizes.{Sizes}
 use Rattle.paging.specs.declared.Paging.{Paging}
-use Rattle.paging.specs.Memory.{placeOf, mapWrite, mapRead, readBlock, writeBlock}
+use Rattle.paging.specs.Memory.{placeOf, readBlock, writeBlock}
+use Rattle.memory.specs.Maps.{mapWrite, mapRead}
 use Rattle.pointers.specs.Pointers.{tablePlace, entryOf, pointerOf}
 use Rattle.panel.specs.Roll.{rollOf}
 use Rattle.panel.specs.Widen.{doubledByte}

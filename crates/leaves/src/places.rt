@@ -1,7 +1,7 @@
 // Places in RAM, what stands there, and what they touch.
 use crate::sets::counted;
+use memory::Sizes;
 use paging::Paging;
-use paging::Sizes;
 use show::byte;
 use show::hex;
 use show::text;
@@ -29,8 +29,8 @@ pub(crate) fn places() {
     reach(32, 40, 0x8001);
     reach(8, 41, 0x8001);
     reach(8, 8, 0xffff);
-    place(b"keyboard bytes ", paging::keyboard_place(0));
-    place(b" ", paging::keyboard_place(15));
+    place(b"keyboard bytes ", memory::keyboard_place(0));
+    place(b" ", memory::keyboard_place(15));
     place(
         b"\nentry of line 1, F6 = 255: ",
         scanline::entry_place(0x99, 255, 1),
@@ -41,9 +41,9 @@ pub(crate) fn places() {
 }
 
 fn bytes(ram: &[u8]) {
-    hex(b"first ", paging::byte_at(ram, 0) as u64, 2);
-    hex(b" last ", paging::byte_at(ram, 1023) as u64, 2);
-    hex(b" past the end ", paging::byte_at(ram, 1024) as u64, 2);
+    hex(b"first ", memory::byte_at(ram, 0) as u64, 2);
+    hex(b" last ", memory::byte_at(ram, 1023) as u64, 2);
+    hex(b" past the end ", memory::byte_at(ram, 1024) as u64, 2);
     hex(b"\nline 0 ", scanline::pointer_word(ram, 0, 0, 0) as u64, 4);
     hex(b" line 1 ", scanline::pointer_word(ram, 0, 0, 1) as u64, 4);
     hex(

@@ -3,8 +3,8 @@ use crate::bytes::fill;
 use crate::bytes::sum;
 use board::Board;
 use compare::Place;
+use memory::Sizes;
 use paging::Paging;
-use paging::Sizes;
 use picture::Refreshed;
 use steps::Step;
 

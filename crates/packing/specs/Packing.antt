@@ -2,9 +2,10 @@
 use Prim.Native.Nat.{ℕ, _+_, _*_}
 use mathlib.Core.Bool.{cond}
 use mathlib.Core.List.{[], _∷_}
-use Rattle.paging.specs.declared.Sizes.{Sizes}
+use Rattle.memory.specs.declared.Sizes.{Sizes}
 use Rattle.paging.specs.declared.Paging.{Paging}
-use Rattle.paging.specs.Memory.{allowed, placeOf, readBlock, writeBlock}
+use Rattle.paging.specs.Memory.{placeOf, readBlock, writeBlock}
+use Rattle.memory.specs.Maps.{allowed}
 use Rattle.pointers.specs.declared.Made.{Made}
 use Rattle.pointers.specs.declared.Pointer.{Pointer}
 

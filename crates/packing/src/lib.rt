@@ -3,8 +3,8 @@ ghost use mathlib.Core.Path.{_≡_};
 ghost use Rattle.pointers.specs.Pointers.{pointerOf, madePointer};
 ghost use Rattle.packing.specs.Packing.{madeReply, pointerReply, reachReply, sizesOf, pagingOf};
 ghost use Rattle.packing.specs.Packing.{reply as Packing·reply};
+use memory::Sizes;
 use paging::Paging;
-use paging::Sizes;
 use pointers::Pointer;
 
 pub fn reply(value: u16, flags: u8, refusal: u8, more: u16) -> u64

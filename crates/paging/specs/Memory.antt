@@ -1,9 +1,10 @@
 -- Which 16K block and place an access reaches: document 01, "Memory", and Issue 9, section 8.
 use Prim.Native.Nat.{ℕ, _+_, _*_, _/_, _%_}
-use mathlib.Core.Bool.{Bool, cond, _&&_, _||_}
-use lib.Dec.{eqb, ltb, leb}
+use mathlib.Core.Bool.{Bool, cond, _&&_}
+use lib.Dec.{eqb, ltb}
 use lib.ListN.{getD}
-use Rattle.paging.specs.declared.Sizes.{Sizes}
+use Rattle.memory.specs.declared.Sizes.{Sizes}
+use Rattle.memory.specs.Maps.{mapRead, mapWrite}
 use Rattle.paging.specs.declared.Paging.{Paging}
 
 -- the 16K bank of an address, 0 to 3, and its place in the bank
@@ -21,17 +22,6 @@ lockWeight bank = cond (eqb bank 0) 64 (cond (eqb bank 1) 16 (cond (eqb bank 2) 
 unfoldable pub locked : ℕ → ℕ → Bool
 locked lock bank = ltb bank 4 && eqb (lock / lockWeight bank % 2) 1
 
--- a map byte with D7 set: the block named by its other bits, or an internal one in its place if that is absent
-unfoldable pub expansion : Sizes → ℕ → ℕ
-expansion s map = cond (ltb (map % 128) (s .total)) (map % 128) (map % 128 % s .internal)
-
--- the write and the read block of a map byte; a locked bank reads its write block
-unfoldable pub mapWrite : Sizes → ℕ → ℕ
-mapWrite s map = cond (leb 128 map) (expansion s map) (map % 8)
-
-unfoldable pub mapRead : Sizes → Bool → ℕ → ℕ
-mapRead s lock map = cond (leb 128 map) (expansion s map) (cond lock (map % 8) (map / 16 % 8))
-
 -- the block that a write and a read of an address reach
 unfoldable pub writeBlock : Sizes → Paging → ℕ → ℕ
 writeBlock s p address = mapWrite s (getD (p .maps) (bankOf address) 0)
@@ -45,11 +35,3 @@ writePlace s p address = writeBlock s p address * 16384 + placeOf address
 
 unfoldable pub readPlace : Sizes → Paging → ℕ → ℕ
 readPlace s p address = readBlock s p address * 16384 + placeOf address
-
--- a keyboard byte: block 3, place 3FF0h + offset
-unfoldable pub keyboardPlace : ℕ → ℕ
-keyboardPlace offset = 3 * 16384 + (0x3FF0 + offset)
-
--- internal memory is 8, 16 or 32 blocks, and total is from internal to 128
-unfoldable pub allowed : Sizes → Bool
-allowed s = (eqb (s .internal) 8 || eqb (s .internal) 16 || eqb (s .internal) 32) && (leb (s .internal) (s .total) && leb (s .total) 128)

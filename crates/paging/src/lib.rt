@@ -1,34 +1,16 @@
-// Which 16K block and place an access reaches, and the total read of a byte of memory.
+// Which 16K block and place an access reaches.
 ghost use mathlib.Core.Path.{_≡_};
-ghost use lib.ListN.{getD};
-ghost use Rattle.paging.specs.Memory.{bankOf, placeOf, mapRead, mapWrite, readBlock, writeBlock};
-ghost use Rattle.paging.specs.Memory.{readPlace, writePlace, keyboardPlace};
-ghost use Rattle.paging.specs.Memory.{allowed as Memory·allowed, locked as Memory·locked, expansion as Memory·expansion};
-
-// Memory sizes in 16K blocks: internal, and internal with expansion.
-#[repr(C)]
-pub struct Sizes {
-    pub internal: u8,
-    pub total: u8,
-}
+ghost use Rattle.paging.specs.Memory.{bankOf, placeOf, readBlock, writeBlock, readPlace, writePlace};
+ghost use Rattle.paging.specs.Memory.{locked as Memory·locked};
+use memory::Sizes;
+use memory::map_read;
+use memory::map_write;
 
 // The map byte of each bank (F0 to F3) and the lock byte (F4).
 #[repr(C)]
 pub struct Paging {
     pub maps: [u8; 4],
     pub lock: u8,
-}
-
-impl Sizes {
-    pub fn allowed(self) -> bool
-        ensures { λ r. ⌜ r ≡ Memory·allowed self ⌝ }
-    {
-        let internal = self.internal;
-        match internal {
-            8 | 16 | 32 => internal <= self.total && self.total <= 128,
-            _ => false,
-        }
-    }
 }
 
 fn bank(address: u16) -> u8
@@ -54,38 +36,6 @@ fn locked(lock: u8, bank: u8) -> bool
         3 => lock / 128 % 2 == 1,
         _ => false,
     }
-}
-
-// The block of a map byte with D7 set; with no internal memory there is none to take its place.
-fn expansion(sizes: Sizes, map: u8) -> u8
-    ensures { λ r. ⌜ r ≡ Memory·expansion sizes map ⌝ }
-{
-    let e = map % 128;
-    if e < sizes.total {
-        return e;
-    }
-    if sizes.internal == 0 {
-        return e;
-    }
-    e % sizes.internal
-}
-
-pub fn map_write(sizes: Sizes, map: u8) -> u8
-    ensures { λ r. ⌜ r ≡ mapWrite sizes map ⌝ }
-{
-    if map < 128 {
-        return map % 8;
-    }
-    expansion(sizes, map)
-}
-
-pub fn map_read(sizes: Sizes, locked: bool, map: u8) -> u8
-    ensures { λ r. ⌜ r ≡ mapRead sizes locked map ⌝ }
-{
-    if map >= 128 {
-        return expansion(sizes, map);
-    }
-    if locked { map % 8 } else { map / 16 % 8 }
 }
 
 impl Paging {
@@ -115,18 +65,4 @@ impl Paging {
     {
         self.write_block(sizes, address) as usize * 16384 + place(address) as usize
     }
-}
-
-// The place of a keyboard byte.
-pub fn keyboard_place(offset: u8) -> usize
-    ensures { λ r. ⌜ r ≡ keyboardPlace offset ⌝ }
-{
-    3 * 16384 + (0x3FF0 + offset as usize)
-}
-
-// The byte at a place of the memory; 0 past its end.
-pub fn byte_at(ram: &[u8], at: usize) -> u8
-    ensures { λ r. ⌜ r ≡ getD (now (ram .entry)) at 0 ⌝ }
-{
-    if at < ram.len() { ram[at] } else { 0 }
 }

@@ -10,7 +10,7 @@ use lib.Dec.{eqb, ltb}
 use lib.ListN.{length}
 use Rattle.lineset.specs.declared.LineSet.{LineSet}
 use Rattle.lineset.specs.Lines.{setOf, member, countOf, shownLines}
-use Rattle.paging.proofs.Laws.{total-at-least}
+use Rattle.memory.proofs.Laws.{total-at-least}
 use Rattle.board.specs.declared.record.Board.{Board}
 use Rattle.board.specs.Record.{good, viewOf, withDirty}
 use Rattle.board.proofs.Good.{both, good-parts}

@@ -41,8 +41,8 @@ pub fn pointer_word(ram: &[u8], table: u8, top: u8, line: u8) -> u16
 {
     let at = entry_place(table, top, line);
     if ram.len() < 131072 {
-        let low = paging::byte_at(ram, at);
-        let high = paging::byte_at(ram, at + 1);
+        let low = memory::byte_at(ram, at);
+        let high = memory::byte_at(ram, at + 1);
         return low as u16 + 256 * high as u16;
     }
     ram[at] as u16 + 256 * ram[at + 1] as u16

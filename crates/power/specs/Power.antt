@@ -2,9 +2,9 @@
 use Prim.Native.Nat.{ℕ}
 use mathlib.Core.Bool.{cond, _&&_}
 use mathlib.Core.List.{[], _∷_}
-use Rattle.paging.specs.declared.Sizes.{Sizes}
+use Rattle.memory.specs.declared.Sizes.{Sizes}
 use Rattle.paging.specs.declared.Paging.{Paging}
-use Rattle.paging.specs.Memory.{allowed}
+use Rattle.memory.specs.Maps.{allowed}
 use Rattle.board.specs.declared.record.Board.{Board}
 use Rattle.power.specs.declared.Started.{Started}
 use Rattle.board.specs.Record.{goodRate, shownSet}

@@ -7,8 +7,8 @@ use board::Clock;
 use board::Disc;
 use board::Video;
 use lineset::LineSet;
+use memory::Sizes;
 use paging::Paging;
-use paging::Sizes;
 
 // The record, or one of zeros and refusal 6.
 pub struct Started {

@@ -9,7 +9,7 @@ use borrow.Author.Tests.{not-true, not-false, lt-ltb, le-ltb, ltb-false}
 use lib.Dec.{ltb, lit≤}
 use lib.ListN.{length, take, drop, length-append, length-take, length-drop}
 use lib.Seq.{paste, take-append-seam, drop-append-add, drop-drop, length-take-le}
-use Rattle.paging.specs.Memory.{allowed}
+use Rattle.memory.specs.Maps.{allowed}
 use Rattle.reach.specs.declared.Listed.{Listed}
 use Rattle.reach.specs.Text.{sizesOf, pagingOf, addressOf, reachLine, refusalLine, wholeLine, groupLine}
 use Rattle.reach.specs.Text.{hex2, hex4, lineAt, textOf, groups, reachText, over, listed, listedOut}

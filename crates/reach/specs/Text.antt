@@ -4,9 +4,10 @@ use mathlib.Core.List.{List, [], _∷_, _++_}
 use mathlib.Core.Bool.{cond}
 use lib.Dec.{ltb}
 use lib.ListN.{length, getD, take, drop}
-use Rattle.paging.specs.declared.Sizes.{Sizes}
+use Rattle.memory.specs.declared.Sizes.{Sizes}
 use Rattle.paging.specs.declared.Paging.{Paging}
-use Rattle.paging.specs.Memory.{placeOf, readBlock, writeBlock, allowed}
+use Rattle.paging.specs.Memory.{placeOf, readBlock, writeBlock}
+use Rattle.memory.specs.Maps.{allowed}
 use Rattle.reach.specs.declared.Listed.{Listed}
 
 -- the last hex digit of a number, in upper case; its last two; its last four

@@ -6,8 +6,8 @@ ghost use lib.ListN.{length, take, drop};
 ghost use lib.Seq.{paste};
 ghost use Rattle.reach.specs.Text.{hexDigit, reachLine, wholeLine, groupLine, refusalLine};
 ghost use Rattle.reach.specs.Text.{groups, reachText, over, listed, listedOut};
+use memory::Sizes;
 use paging::Paging;
-use paging::Sizes;
 
 // How many bytes of `out` the text takes, and 0; or 0 bytes and the refusal number.
 #[repr(C)]

@@ -6,7 +6,7 @@ use answers::Taken;
 use answers::accepts;
 use answers::refuses;
 use board::Board;
-use paging::byte_at;
+use memory::byte_at;
 
 // In boot mode the stream's next byte, else the byte read.
 pub fn take_fetch(b: Board, address: u16, ram: &[u8], boot: &[u8]) -> Taken

@@ -6,14 +6,14 @@ ghost use Rattle.packing.specs.Packing.{sizesOf, pagingOf};
 ghost use Rattle.kinds.specs.Kinds.{asked};
 ghost use Rattle.replies.specs.Replies.{stepReply, startReply};
 use answers::Answer;
-use answers::answered;
 use answers::lent;
-use answers::refused;
 use board::Board;
+use interrupts::answered;
+use interrupts::refused;
 use kinds::ask;
+use memory::Sizes;
 use packing::reply;
 use paging::Paging;
-use paging::Sizes;
 use redraws::Returned;
 use steps::take;
 

@@ -10,9 +10,9 @@ use lib.Dec.{eqb, ltb}
 use lib.ListN.{length}
 use Rattle.lineset.specs.Lines.{member, shownLines}
 use Rattle.lineset.proofs.Sets.{Words, words-set, member-set}
-use Rattle.paging.specs.declared.Sizes.{Sizes}
+use Rattle.memory.specs.declared.Sizes.{Sizes}
 use Rattle.paging.specs.declared.Paging.{Paging}
-use Rattle.paging.specs.Memory.{allowed}
+use Rattle.memory.specs.Maps.{allowed}
 use Rattle.board.specs.declared.record.Board.{Board}
 use Rattle.power.specs.Power.{freshBoard, startRefusal, started}
 use Rattle.parts.specs.Parts.{frame}

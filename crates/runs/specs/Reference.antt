@@ -6,9 +6,10 @@ use mathlib.Core.List.{List}
 use lib.Dec.{eqb, ltb, leb}
 use lib.ListN.{set, length}
 use Rattle.lineset.specs.Lines.{shownLines}
-use Rattle.paging.specs.declared.Sizes.{Sizes}
+use Rattle.memory.specs.declared.Sizes.{Sizes}
 use Rattle.paging.specs.declared.Paging.{Paging}
-use Rattle.paging.specs.Memory.{writePlace, keyboardPlace}
+use Rattle.paging.specs.Memory.{writePlace}
+use Rattle.memory.specs.Maps.{keyboardPlace}
 use Rattle.scanline.specs.Drawing.{View, changed}
 use Rattle.parts.specs.declared.Video.{Video}
 use Rattle.board.specs.Registers.{takenIn, takenOut, pagingOut, videoOut}

@@ -6,7 +6,7 @@ use mathlib.Core.Bool.{cond, _&&_}
 use mathlib.Core.List.{List, [], _∷_}
 use lib.Dec.{eqb}
 use mir.Val.{boolByte}
-use Rattle.paging.specs.declared.Sizes.{Sizes}
+use Rattle.memory.specs.declared.Sizes.{Sizes}
 use Rattle.paging.specs.declared.Paging.{Paging}
 use Rattle.board.specs.declared.record.Board.{Board}
 use Rattle.power.specs.Power.{started, startRefusal}

@@ -81,7 +81,7 @@ fn act(board: Board, op: u8, a: u8, b: u8, c: u8, ram: &mut [u8], boot: &[u8]) -
     match op {
         16 => {
             let at = triple(a, b, c) as usize;
-            byte(b"   ", paging::byte_at(ram, at));
+            byte(b"   ", memory::byte_at(ram, at));
             board
         }
         17 => many(board, c, triple(a, b, 0), ram, boot),

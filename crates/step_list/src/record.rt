@@ -1,8 +1,8 @@
 // Records to start from: power-on, and one field set to any number.
 use board::Board;
 use lineset::LineSet;
+use memory::Sizes;
 use paging::Paging;
-use paging::Sizes;
 use show::small;
 use show::text;
 

@@ -7,8 +7,8 @@ use answers::Taken;
 use answers::accepts;
 use answers::refuses;
 use board::Board;
-use paging::byte_at;
-use paging::keyboard_place;
+use memory::byte_at;
+use memory::keyboard_place;
 
 // A byte stored; past the end nothing is.
 fn put(ram: &mut [u8], at: usize, value: u8)

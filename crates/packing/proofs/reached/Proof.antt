@@ -3,7 +3,7 @@
 use mathlib.Core.Path.{_≡_, sym, _∙_}
 use mathlib.Core.Bool.{true, false}
 use borrow.Author.Tests.{not-true, not-false}
-use Rattle.paging.specs.Memory.{allowed}
+use Rattle.memory.specs.Maps.{allowed}
 use Rattle.packing.specs.Packing.{reachReply, sizesOf}
 use borrow.Author.Needs.{needs}
 use Rattle.packing.proofs.reached.Statement.{statement}

@@ -3,7 +3,7 @@
 use mathlib.Core.Path.{_≡_, sym, _∙_, ap}
 use mathlib.Core.Bool.{Bool, true, false, _&&_, _||_}
 use lib.Dec.{eqb}
-use Rattle.paging.specs.Memory.{allowed}
+use Rattle.memory.specs.Maps.{allowed}
 use Rattle.power.specs.Power.{started, startRefusal}
 use Rattle.board.specs.Record.{goodRate}
 use borrow.Author.Needs.{needs}

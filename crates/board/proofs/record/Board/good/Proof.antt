@@ -2,7 +2,7 @@
 -- Assumes nothing.
 use mathlib.Core.Path.{_≡_, ap}
 use mathlib.Core.Bool.{Bool, true, _&&_}
-use Rattle.paging.specs.Memory.{allowed}
+use Rattle.memory.specs.Maps.{allowed}
 use Rattle.board.specs.Record.{good, goodRate, goodTime, goodDisc, goodFlags}
 use Rattle.board.proofs.Good.{under}
 use borrow.Author.Needs.{needs}
