@@ -139,7 +139,8 @@ fn pictures(bench: &Bench) -> Outcome {
         keep(machine.draw(&bed.board, &bed.ram, &mut bed.picture));
     })?;
     for noted in [0, 1, 16, 256] {
-        let time = bench.row(&format!("refresh, {noted} lines noted"), &bed, |machine, bed, _| {
+        let lines = if noted == 1 { "line" } else { "lines" };
+        let time = bench.row(&format!("refresh, {noted} {lines} noted"), &bed, |machine, bed, _| {
             bed.board.dirty = Lines::first(black_box(noted));
             keep(machine.refresh(&mut bed.board, &bed.ram, &mut bed.picture));
         })?;
