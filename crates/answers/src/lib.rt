@@ -65,7 +65,7 @@ pub fn refuses(b: Board, refusal: u8) -> Taken
 pub fn lent(b: Board, ram: usize, boot: usize) -> u8
     ensures { λ r. ⌜ r ≡ lentRefusal b ram boot ⌝ }
 {
-    if !b.good() {
+    if !checks::good(b) {
         return 1;
     }
     if (ram == b.sizes.total as usize * 16384) & (boot <= 1024) {

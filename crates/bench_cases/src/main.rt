@@ -75,7 +75,7 @@ fn drawn_case(label: &[u8], control: u8, byte: u8) {
 // A roll, held to the number that document 01 says.
 fn roll_case(label: &[u8], old: u8, new: u8, said: i8) {
     text(label);
-    if scanline::roll(old, new) == said {
+    if rolls::roll(old, new) == said {
         text(b" as said\n");
     } else {
         text(b" not as said\n");
@@ -171,7 +171,7 @@ fn pixel_cases() {
     drawn_case(b"P12 off", 0x00, 0xa5);
     drawn_case(b"P12 off and reverse", 0x80, 0xa5);
     text(b"P12 widened");
-    number(scanline::doubled(0xa5) as u64, 4);
+    number(panel::doubled(0xa5) as u64, 4);
     text(b"\n");
 }
 

@@ -4,7 +4,7 @@ use mathlib.Core.Path.{refl}
 use Rattle.paging.specs.Memory.{bankOf, placeOf, lockWeight, locked, readBlock, writeBlock}
 use Rattle.memory.specs.Maps.{expansion, mapWrite, mapRead}
 use Rattle.pointers.specs.Pointers.{tablePlace, entryOf, pointerOf}
-use Rattle.panel.specs.Roll.{rollOf, nearest}
+use Rattle.rolls.specs.Roll.{rollOf, nearest}
 use Rattle.panel.specs.Widen.{pixelOf, digits, byteOf, doubledByte}
 use Rattle.scanline.specs.Drawing.{pixelPlace, drawnByte}
 use Rattle.power.specs.Power.{freshBoard}

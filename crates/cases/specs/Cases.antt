@@ -9,7 +9,7 @@ use Rattle.paging.specs.declared.Paging.{Paging}
 use Rattle.paging.specs.Memory.{placeOf, readBlock, writeBlock}
 use Rattle.memory.specs.Maps.{mapWrite, mapRead}
 use Rattle.pointers.specs.Pointers.{tablePlace, entryOf, pointerOf}
-use Rattle.panel.specs.Roll.{rollOf}
+use Rattle.rolls.specs.Roll.{rollOf}
 use Rattle.panel.specs.Widen.{doubledByte}
 use Rattle.scanline.specs.Drawing.{pixelPlace, drawnByte}
 use Rattle.board.specs.declared.record.Board.{Board}

@@ -1,7 +1,7 @@
 // The C interface of what needs no record.
 ghost use mathlib.Core.Path.{_≡_};
 ghost use lib.ListN.{length};
-ghost use Rattle.panel.specs.Roll.{rollOf};
+ghost use Rattle.rolls.specs.Roll.{rollOf};
 ghost use Rattle.panel.specs.Widen.{widenRefusal, widenedOut};
 ghost use Rattle.pointers.specs.Pointers.{pointerOf, madePointer};
 ghost use Rattle.packing.specs.Packing.{madeReply, pointerReply, reachReply, sizesOf, pagingOf};
@@ -17,7 +17,7 @@ use redraws::differs;
 pub extern "C" fn joyce_widen(line: &[u8], out: &mut [u8]) -> u8
     ensures { λ r. ⌜ (r ≡ widenRefusal (length (now (line .entry))) (length (now (out .entry)))) × (now (out .exit) ≡ widenedOut (now (line .entry)) (now (out .entry))) ⌝ }
 {
-    scanline::widen(line, out)
+    panel::widen(line, out)
 }
 
 // The roll of the top line, -128 to 127.
@@ -25,7 +25,7 @@ pub extern "C" fn joyce_widen(line: &[u8], out: &mut [u8]) -> u8
 pub extern "C" fn joyce_roll(old_top: u8, new_top: u8) -> i8
     ensures { λ r. ⌜ r ≡ rollOf «old_top» «new_top» ⌝ }
 {
-    scanline::roll(old_top, new_top)
+    rolls::roll(old_top, new_top)
 }
 
 #[no_mangle]

@@ -92,7 +92,7 @@ fn print_bytes(s: &[u8]) {
 }
 
 fn widened(line: &[u8], out: &mut [u8]) {
-    hex(b"refusal ", scanline::widen(line, out) as u64, 1);
+    hex(b"refusal ", panel::widen(line, out) as u64, 1);
     text(b" ");
     print_bytes(out);
 }

@@ -1,3 +1,2 @@
-pub mod Rolling
 pub mod Table
 pub mod Widening

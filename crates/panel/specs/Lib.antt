@@ -1,2 +1,1 @@
-pub mod Roll
 pub mod Widen

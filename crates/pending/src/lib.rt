@@ -14,7 +14,7 @@ pub struct NextDirty {
 pub fn next_dirty(b: Board, n: u16) -> NextDirty
     ensures { λ r. ⌜ r ≡ nextAnswer b n ⌝ }
 {
-    if !b.good() {
+    if !checks::good(b) {
         return NextDirty {
             line: Line::Nothing,
             refusal: 1,

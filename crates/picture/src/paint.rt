@@ -72,7 +72,7 @@ fn paint_set(video: Video, ram: &[u8], lines: LineSet, picture: &mut [u8])
 fn refusal_of(b: Board, ram: usize, picture: usize) -> u8
     ensures { λ r. ⌜ r ≡ pictureRefusal b ram picture ⌝ }
 {
-    if !b.good() {
+    if !checks::good(b) {
         return 1;
     }
     if ram != b.sizes.total as usize * 16384 {

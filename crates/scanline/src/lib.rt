@@ -1,5 +1,5 @@
-// Scan lines: the places of a line's pixels, the drawn byte, and the lines that a store touches. Pointers and the
-// panel's part stand in crates of their own, and are handed on here.
+// Scan lines: the places of a line's pixels, the drawn byte, and the lines that a store touches. Pointers stand in a
+// crate of their own, and are handed on here.
 ghost use mathlib.Core.Path.{_≡_};
 ghost use Prim.Native.Nat.{ℕ, _+_, _≤_, _<_};
 ghost use mathlib.Core.Bool.{Bool};
@@ -9,9 +9,6 @@ ghost use Rattle.lineset.specs.Lines.{setOf, packed};
 ghost use Rattle.pointers.specs.Pointers.{pointerWord};
 ghost use Rattle.scanline.specs.Drawing.{pixelPlace, drawnByte, touches, pixelTouched};
 use lineset::LineSet;
-pub use panel::doubled;
-pub use panel::roll;
-pub use panel::widen;
 pub use pointers::Made;
 pub use pointers::Pointer;
 pub use pointers::entry;

@@ -3,11 +3,11 @@
 use mathlib.Core.Path.{_≡_, ap}
 use mathlib.Core.Bool.{Bool, true, _&&_}
 use Rattle.memory.specs.Maps.{allowed}
 use Rattle.board.specs.Record.{good, goodRate, goodTime, goodDisc, goodFlags}
 use Rattle.board.proofs.Good.{under}
 use borrow.Author.Needs.{needs}
-use Rattle.board.proofs.record.Board.good.Statement.{statement}
-use Rattle.board.proofs.record.Board.good.Tie as tie
+use Rattle.checks.proofs.good.Statement.{statement}
+use Rattle.checks.proofs.good.Tie as tie
 
 allowed-requires : tie.Need-allowed-requires
 allowed-requires c κs = search needs
@@ -27,7 +27,7 @@ good-dirty-requires c κs = search needs
 returns : tie.Need-returns
 unfolding good goodRate
 returns c =
-    let b = c .before .before .before .before .before .before .before .before .args .self in
+    let b = c .before .before .before .before .before .before .before .before .args .b in
     rw (c .before .before .before .before .before .before .allowed .ensures, c .before .before .before .good-time .ensures, c .before .before .good-disc .ensures, c .before .good-flags .ensures)
     (ap (λ (t : Bool). allowed (b .sizes) && t)
     (under (goodRate (b .rate)) _ _ (λ (r : goodRate (b .rate) ≡ true). ap (λ (t : Bool). goodTime b && (goodDisc (b .disc) && (goodFlags b && t))) (c .good-dirty .ensures r))))

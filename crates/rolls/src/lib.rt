@@ -1,6 +1,6 @@
 // How far the picture rolls when the top line changes.
 ghost use mathlib.Core.Path.{_≡_};
-ghost use Rattle.panel.specs.Roll.{rollOf};
+ghost use Rattle.rolls.specs.Roll.{rollOf};
 
 // The number from -128 to 127 that added to the old top line gives the new one mod 256.
 pub fn roll(old: u8, new: u8) -> i8

@@ -1,9 +1,9 @@
 -- The tests are those of `goodTime`, in its order.
 -- Assumes nothing.
 use Rattle.board.specs.Record.{goodTime}
 use borrow.Author.Needs.{needs}
-use Rattle.board.proofs.record.Board.good_time.Statement.{statement}
-use Rattle.board.proofs.record.Board.good_time.Tie as tie
+use Rattle.checks.proofs.good_time.Statement.{statement}
+use Rattle.checks.proofs.good_time.Tie as tie
 
 frame-scans-requires : tie.Need-frame-scans-requires
 frame-scans-requires c κs = search needs

@@ -13,15 +13,15 @@ use Rattle.lineset.specs.declared.LineSet.{LineSet}
 use Rattle.lineset.specs.Lines.{setOf, inside, shownLines}
 use Rattle.lineset.proofs.Sets.{Words}
 use Rattle.lineset.proofs.Operations.{inside-all, inside-last}
 use Rattle.board.specs.Record.{shownSet, goodRate}
 use borrow.Author.Needs.{needs}
-use Rattle.board.proofs.record.Board.good_dirty.Statement.{statement}
-use Rattle.board.proofs.record.Board.good_dirty.Tie as tie
+use Rattle.checks.proofs.good_dirty.Statement.{statement}
+use Rattle.checks.proofs.good_dirty.Tie as tie
 
-fits : (s : tie.Start) (j : ℕ) → Fits w64 (getD (s .args .self .dirty .words) j 0)
+fits : (s : tie.Start) (j : ℕ) → Fits w64 (getD (s .args .b .dirty .words) j 0)
 fits s j = search needs
 
-words : (s : tie.Start) → Words (s .args .self .dirty)
+words : (s : tie.Start) → Words (s .args .b .dirty)
 words s = record { four = search needs; small = λ j. fits s j .fits }
 
 below : (w : ℕ) → eqb (w / 256) 0 ≡ ltb w 256
@@ -47,7 +47,7 @@ array-read-result : tie.Need-array-read-result
 array-read-result c = search needs
 
 returns : tie.Need-returns
-returns c = let s = c .before .before in shown (s .args .self .dirty) (words s) (s .args .self .rate)
+returns c = let s = c .before .before in shown (s .args .b .dirty) (words s) (s .args .b .rate)
 
 pub good-dirty-spec : {M : Type 1} → statement M
 good-dirty-spec = tie.close (tie.spec array-read-result returns)

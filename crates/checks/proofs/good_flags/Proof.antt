@@ -1,9 +1,9 @@
 -- The tests are those of `goodFlags`, in its order.
 -- Assumes nothing.
 use borrow.Author.Needs.{needs}
 use Rattle.board.specs.Record.{goodFlags}
-use Rattle.board.proofs.record.Board.good_flags.Statement.{statement}
-use Rattle.board.proofs.record.Board.good_flags.Tie as tie
+use Rattle.checks.proofs.good_flags.Statement.{statement}
+use Rattle.checks.proofs.good_flags.Tie as tie
 
 returns : tie.Need-returns
 unfolding goodFlags

@@ -8,10 +8,10 @@ use lib.IntN.{pos, negsuc, _-ℤ_}
 use mir.Syntax.{w8, w16}
 use mir.Val.{ofZ, toZ}
 use mir.Facts.{toZ-ofZ, toZ-pos}
-use Rattle.panel.specs.Roll.{rollOf, nearest}
-use Rattle.panel.proofs.Rolling.{less-256, nearest-forward, nearest-back}
-use Rattle.panel.proofs.rolls.roll.Statement.{statement}
-use Rattle.panel.proofs.rolls.roll.Tie as tie
+use Rattle.rolls.specs.Roll.{rollOf, nearest}
+use Rattle.rolls.proofs.Rolling.{less-256, nearest-forward, nearest-back}
+use Rattle.rolls.proofs.roll.Statement.{statement}
+use Rattle.rolls.proofs.roll.Tie as tie
 
 module _ (d : ℕ) (h : 128 ≤ d) (l : d < 256) where
   less : toZ w16 d -ℤ pos 256 ≡ negsuc (255 - d)

@@ -8,7 +8,7 @@ use native.Mathlib.Omega.{arith}
 use lib.Dec.{ltb, leb→le, le→leb}
 use lib.IntN.{ℤ, pos, negsuc, _-ℤ_}
 use borrow.Author.Tests.{ltb-true, ltb-false, lt-ltb, le-ltb}
-use Rattle.panel.specs.Roll.{nearest, rollOf, rolled, InRoll}
+use Rattle.rolls.specs.Roll.{nearest, rollOf, rolled, InRoll}
 
 -- d - 256, for d below 256
 pub less-256 : (d : ℕ) → d < 256 → pos d -ℤ pos 256 ≡ negsuc (255 - d)

@@ -1,9 +1,9 @@
 -- The tests are those of `goodDisc`, in its order.
 -- Assumes nothing.
 use borrow.Author.Needs.{needs}
 use Rattle.board.specs.Record.{goodDisc}
-use Rattle.board.proofs.record.Board.good_disc.Statement.{statement}
-use Rattle.board.proofs.record.Board.good_disc.Tie as tie
+use Rattle.checks.proofs.good_disc.Statement.{statement}
+use Rattle.checks.proofs.good_disc.Tie as tie
 
 returns : tie.Need-returns
 unfolding goodDisc
