@@ -4,7 +4,8 @@
  * Every input is taken: any bytes in a record, any length, any number. What a function does not
  * accept it refuses with a number, and then it changes nothing: not the record, not lent memory
  * (but joyce_power_on, refused with 6, leaves a record of zeros). Lent memory must be there for the
- * length given (with length 0 any pointer but null serves), must not overlap, and is not kept.
+ * length given, and is not kept; memory that a function writes must not overlap other lent memory.
+ * No pointer may be null, with length 0 neither: any other address serves then.
  */
 #ifndef JOYCE_H
 #define JOYCE_H
@@ -53,7 +54,8 @@ enum { JOYCE_ROUTE_NONE = 0, JOYCE_ROUTE_NMI = 1, JOYCE_ROUTE_INT = 2 };
 
 /* The record. Flags are 0 or 1. A good record has each field in range, no note on an unshown line,
  * and never route NMI with the disc line on. An accepted power-on gives a good record, and every
- * call leaves a good one good. */
+ * call but a refused power-on leaves a good one good. Bytes 11, 13, 17 and 27 to 31 are padding: no
+ * result depends on them, and what a call leaves there is not promised. Compare fields, not bytes. */
 typedef struct { uint8_t internal, total; } joyce_sizes;                        /* blocks */
 typedef struct { uint8_t maps[4]; uint8_t lock; } joyce_paging;                 /* F0 to F3, F4 */
 typedef struct { uint8_t table, top, control; } joyce_video;                    /* F5, F6, F7 */
@@ -74,13 +76,20 @@ typedef struct {
 } joyce_board;
 
 JOYCE_ASSERT(sizeof(joyce_sizes) == 2);
+JOYCE_ASSERT(offsetof(joyce_sizes, total) == 1);
 JOYCE_ASSERT(sizeof(joyce_paging) == 5);
+JOYCE_ASSERT(offsetof(joyce_paging, lock) == 4);
 JOYCE_ASSERT(sizeof(joyce_video) == 3);
+JOYCE_ASSERT(offsetof(joyce_video, top) == 1);
+JOYCE_ASSERT(offsetof(joyce_video, control) == 2);
 JOYCE_ASSERT(sizeof(joyce_clock) == 4);
 JOYCE_ASSERT(offsetof(joyce_clock, beam) == 2);
 JOYCE_ASSERT(sizeof(joyce_boot) == 4);
 JOYCE_ASSERT(offsetof(joyce_boot, at) == 2);
 JOYCE_ASSERT(sizeof(joyce_disc) == 4);
+JOYCE_ASSERT(offsetof(joyce_disc, line) == 1);
+JOYCE_ASSERT(offsetof(joyce_disc, terminal_count) == 2);
+JOYCE_ASSERT(offsetof(joyce_disc, motor) == 3);
 JOYCE_ASSERT(sizeof(joyce_lines) == 32);
 JOYCE_ASSERT(sizeof(joyce_board) == 64);
 JOYCE_ASSERT(offsetof(joyce_board, sizes) == 0);
@@ -107,7 +116,8 @@ uint64_t joyce_power_on(joyce_board *board, uint8_t internal, uint8_t total, uin
  * on, refusal 1 to 5. A step notes a shown line exactly if F5, F6, or D7 or D6 of F7 comes to
  * differ, or the line's pointer word, or one of the 90 bytes named by its pointer before. NMI is
  * shown once; the route is none afterwards. After a refusal the lines are those of the record, off
- * for 1. The stream is at most 1,024 bytes and only read by a fetch in boot mode. A kind outside 1
+ * for 1. The stream is at most 1,024 bytes and only read by a fetch in boot mode; where there is
+ * none, boot_len is 0 and boot is any address but null. A kind outside 1
  * to 9, a number or value wider than the kind takes, and one other than 0 that it does not take are
  * refused with 3, after 1 and 2. */
 uint64_t joyce_step(joyce_board *board, uint32_t kind, uint32_t number, uint32_t value,

@@ -1,13 +1,15 @@
 #!/bin/sh
-# Builds and runs ctest.c as C11 and as C++ against libfirmware.a in the folder JOYCE_LIB.
+# Builds and runs ctest.c as C11 and as C++ against libfirmware.a in the folder JOYCE_LIB. The proved library needs no other;
+# JOYCE_LINK names what another archive needs.
 set -eu
 here=$(cd "$(dirname "$0")" && pwd)
-lib=${JOYCE_LIB:-$here/../../target/staticlib}
+lib=${JOYCE_LIB:-$here/../../target/staticlib}/libfirmware.a
 out=$(mktemp -d)
 trap 'rm -rf "$out"' EXIT
-# What the archive itself needs, if it is one of the stand-in, stands at the end.
-libs="$lib/libfirmware.a ${JOYCE_LINK:--lpthread -ldl -lm}"
-${CC:-cc} -std=c11 -Wall -Wextra -Werror -pedantic -I "$here/../../include" "$here/ctest.c" -o "$out/c" $libs
+strict="-Wall -Wextra -Werror -pedantic"
+# shellcheck disable=SC2086
+${CC:-cc} -std=c11 $strict -I "$here/../../include" "$here/ctest.c" -o "$out/c" "$lib" ${JOYCE_LINK:-}
 "$out/c"
-${CXX:-c++} -x c++ -std=c++17 -Wall -Wextra -Werror -pedantic -I "$here/../../include" "$here/ctest.c" -x none -o "$out/cpp" $libs
+# shellcheck disable=SC2086
+${CXX:-c++} -x c++ -std=c++17 $strict -I "$here/../../include" "$here/ctest.c" -x none -o "$out/cpp" "$lib" ${JOYCE_LINK:-}
 "$out/cpp"

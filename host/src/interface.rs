@@ -11,18 +11,19 @@ use crate::reply::Reply;
 type Step = unsafe extern "C" fn(*mut Board, u32, u32, u32, *mut u8, usize, *const u8, usize) -> u64;
 type Bytes10 = unsafe extern "C" fn(*mut Board, u8, u8, u8, u8, u8, u8, u8, u8, u8, u8) -> u64;
 
+/// Only this crate makes one, of functions that keep to the above.
 pub struct Interface {
-    pub power_on: Bytes10,
-    pub step: Step,
-    pub draw: unsafe extern "C" fn(*const Board, *const u8, usize, *mut u8, usize) -> u64,
-    pub refresh: unsafe extern "C" fn(*mut Board, *const u8, usize, *mut u8, usize) -> u64,
-    pub next_noted: unsafe extern "C" fn(*const Board, u32) -> u64,
-    pub first_difference: unsafe extern "C" fn(*const u8, usize, *const u8, usize) -> u64,
-    pub widen: unsafe extern "C" fn(*const u8, usize, *mut u8, usize) -> u8,
-    pub make_pointer: unsafe extern "C" fn(u32, u32) -> u64,
-    pub read_pointer: unsafe extern "C" fn(u16) -> u64,
-    pub roll: unsafe extern "C" fn(u8, u8) -> i8,
-    pub reach: unsafe extern "C" fn(u8, u8, u8, u8, u8, u8, u8, u16) -> u64,
+    pub(crate) power_on: Bytes10,
+    pub(crate) step: Step,
+    pub(crate) draw: unsafe extern "C" fn(*const Board, *const u8, usize, *mut u8, usize) -> u64,
+    pub(crate) refresh: unsafe extern "C" fn(*mut Board, *const u8, usize, *mut u8, usize) -> u64,
+    pub(crate) next_noted: unsafe extern "C" fn(*const Board, u32) -> u64,
+    pub(crate) first_difference: unsafe extern "C" fn(*const u8, usize, *const u8, usize) -> u64,
+    pub(crate) widen: unsafe extern "C" fn(*const u8, usize, *mut u8, usize) -> u8,
+    pub(crate) make_pointer: unsafe extern "C" fn(u32, u32) -> u64,
+    pub(crate) read_pointer: unsafe extern "C" fn(u16) -> u64,
+    pub(crate) roll: unsafe extern "C" fn(u8, u8) -> i8,
+    pub(crate) reach: unsafe extern "C" fn(u8, u8, u8, u8, u8, u8, u8, u16) -> u64,
 }
 
 impl Machine for Interface {

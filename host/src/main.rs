@@ -27,23 +27,30 @@ joyce help                      this text
 ";
 
 fn main() -> ExitCode {
-    let arguments: Vec<String> = std::env::args().skip(1).collect();
-    let (command, rest) = match arguments.split_first() {
-        Some((command, rest)) => (command.as_str(), rest),
-        None => ("", &[][..]),
-    };
-    match run(command, rest) {
+    match arguments().and_then(|arguments| run(&arguments)) {
         Ok(true) => ExitCode::SUCCESS,
         Ok(false) => ExitCode::from(1),
         Err(error) => {
-            eprintln!("joyce: {error}");
+            if !error.is_empty() {
+                eprintln!("joyce: {error}");
+            }
             ExitCode::from(2)
         }
     }
 }
 
+/// The words behind the tool's name. A file name that is no text cannot be named in a message, so it is not taken.
+fn arguments() -> Result<Vec<String>, String> {
+    let words = std::env::args_os().skip(1).map(|word| word.into_string());
+    words.collect::<Result<_, _>>().map_err(|word| format!("{word:?} is not UTF-8"))
+}
+
 /// True for success, false for a difference that was found.
-fn run(command: &str, rest: &[String]) -> Result<bool, String> {
+fn run(arguments: &[String]) -> Result<bool, String> {
+    let (command, rest) = match arguments.split_first() {
+        Some((command, rest)) => (command.as_str(), rest),
+        None => ("", &[][..]),
+    };
     match command {
         "demo" => tool::demo::run(&Library, rest).map(|()| true),
         "render" => tool::render::run(&Library, rest).map(|()| true),

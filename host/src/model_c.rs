@@ -20,7 +20,7 @@ pub const MODEL: Interface = Interface {
     reach: joyce_reach,
 };
 
-/// The bytes lent by pointer and length; C may lend none by a null pointer.
+/// The bytes lent by pointer and length. No bytes may be lent from an address at which there are none.
 unsafe fn lent<'a>(at: *const u8, len: usize) -> &'a [u8] {
     if len == 0 {
         &[]

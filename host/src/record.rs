@@ -247,8 +247,22 @@ mod tests {
             &b.boot as *const _ as usize,
             &b.disc as *const _ as usize,
             &b.external as *const _ as usize,
+            &b.driven as *const _ as usize,
+            &b.bleeper as *const _ as usize,
             &b.dirty as *const _ as usize,
         ];
-        assert_eq!(places.map(|place| place - start), [0, 2, 3, 8, 12, 16, 20, 24, 32]);
+        assert_eq!(places.map(|place| place - start), [0, 2, 3, 8, 12, 16, 20, 24, 25, 26, 32]);
+        let inner = [
+            &b.sizes.total as *const _ as usize,
+            &b.paging.lock as *const _ as usize,
+            &b.video.top as *const _ as usize,
+            &b.video.control as *const _ as usize,
+            &b.clock.beam as *const _ as usize,
+            &b.boot.at as *const _ as usize,
+            &b.disc.line as *const _ as usize,
+            &b.disc.terminal_count as *const _ as usize,
+            &b.disc.motor as *const _ as usize,
+        ];
+        assert_eq!(inner.map(|place| place - start), [1, 7, 9, 10, 14, 18, 21, 22, 23]);
     }
 }

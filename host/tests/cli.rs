@@ -120,12 +120,30 @@ fn errors_are_clear_and_leave_nothing() {
     complained(&joyce(&folder, &["render", "short", "--f5", "1G"]), "--f5: 1G is not a byte in hex");
     complained(&joyce(&folder, &["render", "short", "--rate", "55"]), "--rate: 55");
     complained(&joyce(&folder, &["render", "short", "--colour", "1"]), "unknown flag --colour");
+    complained(&joyce(&folder, &["render", "short", "--f5", "0x0x5B"]), "--f5: 0x0x5B is not a byte in hex");
     complained(&joyce(&folder, &["demo", "-o"]), "-o needs a value");
+    complained(&joyce(&folder, &["render", "short", "-o", "--f5"]), "-o needs a value");
+    complained(&joyce(&folder, &["demo", "-o", "."]), ".: not a regular file");
     complained(&joyce(&folder, &["demo", "-o", "no/such/folder.pbm"]), "no/such/folder.pbm:");
     complained(&joyce(&folder, &["fuzz", "--calls", "many"]), "--calls: many is not a number");
     complained(&joyce(&folder, &["bench", "--ms", "0"]), "--ms");
     assert_eq!(fs::read_dir(&folder).expect("the folder").count(), 1);
     assert!(said(&joyce(&folder, &["help"])).contains("joyce reach"));
+}
+
+/// A name that is not text, and a picture written through a link.
+#[cfg(unix)]
+#[test]
+fn odd_names() {
+    use std::os::unix::{ffi::OsStrExt, fs::symlink};
+    let folder = folder("names");
+    let name = std::ffi::OsStr::from_bytes(b"\xFF");
+    let odd = Command::new(env!("CARGO_BIN_EXE_joyce")).arg("render").arg(name).current_dir(&folder).output();
+    complained(&odd.expect("the tool runs"), "is not UTF-8");
+    fs::write(folder.join("page"), b"").expect("a file");
+    symlink("page", folder.join("link")).expect("a link");
+    assert!(joyce(&folder, &["demo", "-o", "link"]).status.success());
+    assert_eq!(fs::read(folder.join("page")).expect("the picture").len(), 11 + PICTURE);
 }
 
 #[test]

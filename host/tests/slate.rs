@@ -38,8 +38,10 @@ impl Slate {
         }
     }
 
-    fn refusal(&self, step: &Numbers) -> u8 {
+    /// What the table refuses, from a step and the lengths of RAM and stream.
+    fn refusal(&self, step: &Numbers, ram: usize, stream: usize) -> u8 {
         match (step.kind, step.number) {
+            _ if ram != self.total * BLOCK || stream > 1_024 => 2,
             (7, 16..) => 3,
             (4, 0 | 1 | 0x80..=0xEF | 0xF4 | 0xF8 | 0xFC | 0xFD) => 0,
             (5, 1 | 0x80..=0xEF | 0xF0..=0xF8 | 0xFA..=0xFD) => 0,
@@ -49,9 +51,6 @@ impl Slate {
     }
 
     fn step(&mut self, step: &Numbers) {
-        if self.refusal(step) != 0 {
-            return;
-        }
         let (before, before_ram) = (self.f, self.ram.clone());
         match (step.kind, step.number as usize, step.value as u8) {
             (5, 0xF8, value) if value % 16 == 1 => self.f[7] = 0,
@@ -139,18 +138,28 @@ fn run_list(machine: &dyn Machine, seed: u64, calls: usize) {
     let mut slate = Slate { internal: 8, total: 8, shown, f, ram: ram.clone(), marks };
     for call in 0..calls {
         if rng.once_in(6) {
-            let reply = machine.refresh(&mut board, &ram, &mut picture);
-            let (count, lines) = slate.refresh();
-            assert_eq!((reply.refusal(), reply.value()), (0, count), "seed {seed}, call {call}");
-            assert_eq!(picture[..lines.len()], lines, "seed {seed}, call {call}");
+            let (lent, paper) = (ram.len() - rng.once_in(9) as usize, PICTURE - rng.once_in(9) as usize);
+            let reply = machine.refresh(&mut board, &ram[..lent], &mut picture[..paper]);
+            if (lent, paper) == (8 * BLOCK, PICTURE) {
+                let (count, lines) = slate.refresh();
+                assert_eq!((reply.refusal(), reply.value()), (0, count), "seed {seed}, call {call}");
+                assert_eq!(picture[..lines.len()], lines, "seed {seed}, call {call}");
+            } else {
+                assert_eq!((reply.refusal(), reply.value()), (2, 0), "seed {seed}, call {call}");
+            }
         } else {
             let step = random_step(&mut rng, &slate);
-            let reply = machine.step(&mut board, step, &mut ram, &[7; 1_024]);
+            let lent = ram.len() - rng.once_in(20) as usize;
+            let stream = rng.pick(&[0, 1, 700, 1_023, 1_024, 1_024, 1_025]);
+            let reply = machine.step(&mut board, step, &mut ram[..lent], &[7; 1_025][..stream]);
+            let refusal = slate.refusal(&step, lent, stream);
             // A stream that has run out meets fetches only, and they change nothing here.
-            if reply.refusal() != 4 {
-                assert_eq!(reply.refusal(), slate.refusal(&step), "seed {seed}, call {call}: {step:?}");
+            if !(step.kind == 1 && refusal == 0 && reply.refusal() == 4) {
+                assert_eq!(reply.refusal(), refusal, "seed {seed}, call {call}: {step:?}");
             }
-            slate.step(&step);
+            if refusal == 0 {
+                slate.step(&step);
+            }
         }
         assert!(ram == slate.ram, "seed {seed}, call {call}: RAM");
         let noted: [bool; 256] = std::array::from_fn(|line| board.dirty.has(line as u8));

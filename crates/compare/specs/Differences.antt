@@ -16,10 +16,11 @@ unfoldable pub firstPixel : (ℕ → Bool) → ℕ → ℕ → Place
 firstPixel p from zero = Same
 firstPixel p from (suc n) = cond (p from) (Pixel (from / 720) (from % 720)) (firstPixel p (suc from) n)
 
--- the first place where two pictures differ: 2 for a wrong length
+-- the first place where two pictures differ
 unfoldable pub firstDifference : List ℕ → List ℕ → Place
 firstDifference a b = firstPixel (λ (j : ℕ). not (eqb (pixelIn a j) (pixelIn b j))) 0 184320
 
+-- 2 for a picture of a wrong length
 unfoldable pub differenceAnswer : List ℕ → List ℕ → Difference
 differenceAnswer a b =
     cond (eqb (length a) 23040 && eqb (length b) 23040) (record { place = firstDifference a b; refusal = 0 }) (record { place = Same; refusal = 2 })

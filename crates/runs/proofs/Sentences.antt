@@ -16,24 +16,11 @@ use Rattle.answers.specs.declared.Step.the-variants.{Fetch, PortIn}
 use Rattle.answers.specs.Steps.{moved, ownRefusal}
 use Rattle.ports.proofs.Ports.{board-port, in-forwarded}
 use Rattle.picture.specs.Pictures.{pictureRefusal, drawPicture, refreshPicture, shown}
+use Rattle.runs.specs.Reset.{resetBoard}
 use Rattle.runs.proofs.Mirroring.{past-end}
 
--- "Reset sets the same, but keeps sizes, rate, maps, lock, F5, F6, beam, both lines and notes."
-pub reset-as-power-on : (b : Board) (value : ℕ) → value % 16 ≡ 1
-    → written b 0xF8 value ≡ (let f = freshBoard (b .sizes) (b .rate) (b .paging) (b .video .table) (b .video .top) in
-    record {
-      sizes = f .sizes;
-      rate = f .rate;
-      paging = f .paging;
-      video = f .video;
-      clock = record { counter = f .clock .counter; beam = b .clock .beam };
-      boot = f .boot;
-      disc = record { route = f .disc .route; line = b .disc .line; «terminal_count» = f .disc .«terminal_count»; motor = f .disc .motor };
-      external = b .external;
-      driven = f .driven;
-      bleeper = f .bleeper;
-      dirty = b .dirty;
-    })
+-- "Reset (command 1) sets the same", but for what it keeps
+pub reset-as-power-on : (b : Board) (value : ℕ) → value % 16 ≡ 1 → written b 0xF8 value ≡ resetBoard b
 unfolding written command pagingOut videoOut clockTold bootTold discTold drivenTold bleeperTold freshBoard
 reset-as-power-on b value e = rw e
 

@@ -1,3 +1,4 @@
 pub mod Events
 pub mod Reference
 pub mod Ticks
+pub mod Reset

@@ -108,8 +108,10 @@ fn lent_memory(library: &dyn Machine) -> Result<u64, String> {
     let mut calls = 0;
     for ram in near(RAM).chain([RAM - BLOCK, RAM + BLOCK]) {
         for kind in 1..=9 {
+            // Scan and the lines take no number.
+            let number = u32::from(!matches!(kind, 6 | 8 | 9));
             let make = |machine: &dyn Machine, side: &mut Side| {
-                machine.step(&mut side.board, Numbers::new(kind, 1, 0), &mut side.ram[..ram], &[9; 64])
+                machine.step(&mut side.board, Numbers::new(kind, number, 0), &mut side.ram[..ram], &[9; 64])
             };
             let replies = (make(library, &mut theirs), make(&Model, &mut ours));
             same(|| format!("kind {kind}, RAM {ram}"), replies.0, replies.1)?;

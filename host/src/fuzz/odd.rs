@@ -28,7 +28,7 @@ pub fn wrong_lengths(generator: &mut Generator) -> Call {
     let seed = rng.word();
     let any = (seed >> 8) as u8;
     let ram = generator.right_ram();
-    let call = match generator.rng.below(8) {
+    let call = match generator.rng.below(11) {
         0 => {
             return Call::Widen {
                 line: near(&mut generator.rng, LINE_BYTES),
@@ -49,6 +49,9 @@ pub fn wrong_lengths(generator: &mut Generator) -> Call {
         4 => generator.step(Numbers::channel_out(any, seed as u8)),
         5 => generator.step(Numbers::channel_in(any)),
         6 => generator.step(Numbers::fetch(seed as u16)),
+        7 => generator.step(Numbers::scan()),
+        8 => generator.step(Numbers::keyboard(any % 16, seed as u8)),
+        9 => generator.step(Numbers::disc_line(any > 127)),
         _ => generator.step(Numbers::write(seed as u16, any)),
     };
     with_wrong_length(generator, call)

@@ -20,7 +20,8 @@ impl Args {
             if !known.contains(&argument.as_str()) {
                 return Err(format!("unknown flag {argument}"));
             }
-            let value = rest.next().ok_or(format!("{argument} needs a value"))?;
+            let value = rest.next().filter(|next| !next.starts_with('-'));
+            let value = value.ok_or(format!("{argument} needs a value"))?;
             if args.flags.insert(argument.clone(), value.clone()).is_some() {
                 return Err(format!("{argument} is given twice"));
             }
@@ -53,7 +54,8 @@ impl Args {
             None => return Ok(default),
             Some(text) => text,
         };
-        let plain = text.trim_start_matches("0x").trim_end_matches(['h', 'H']);
+        let plain = text.strip_prefix("0x").or_else(|| text.strip_prefix("0X")).unwrap_or(text);
+        let plain = plain.strip_suffix(['h', 'H']).unwrap_or(plain);
         // A sign would be taken by the parser but is no hex digit.
         let digits = !plain.is_empty() && plain.chars().all(|c| c.is_ascii_hexdigit());
         match u8::from_str_radix(plain, 16) {

@@ -7,10 +7,14 @@ pub fn read(path: &str) -> Result<Vec<u8>, String> {
     fs::read(path).map_err(|error| format!("{path}: {error}"))
 }
 
-/// Writes beside the file first and then moves it into place.
+/// Writes beside the file first and then moves it into place. What is no file, as a device, stays; a link is followed.
 pub fn write(path: &str, bytes: &[u8]) -> Result<(), String> {
-    let beside = beside(path)?;
-    let written = fs::write(&beside, bytes).and_then(|()| fs::rename(&beside, path));
+    if matches!(fs::metadata(path), Ok(found) if !found.is_file()) {
+        return Err(format!("{path}: not a regular file"));
+    }
+    let place = fs::canonicalize(path).unwrap_or_else(|_| PathBuf::from(path));
+    let beside = beside(&place).ok_or(format!("{path}: not a file name"))?;
+    let written = fs::write(&beside, bytes).and_then(|()| fs::rename(&beside, &place));
     written.map_err(|error| {
         // The file may not have come into being at all; there is nothing more to say then.
         let _ = fs::remove_file(&beside);
@@ -18,10 +22,10 @@ pub fn write(path: &str, bytes: &[u8]) -> Result<(), String> {
     })
 }
 
-fn beside(path: &str) -> Result<PathBuf, String> {
-    let name = Path::new(path).file_name().ok_or(format!("{path}: not a file name"))?;
+fn beside(path: &Path) -> Option<PathBuf> {
+    let name = path.file_name()?;
     let mut hidden = std::ffi::OsString::from(".");
     hidden.push(name);
     hidden.push(format!(".{}.part", std::process::id()));
-    Ok(Path::new(path).with_file_name(hidden))
+    Some(path.with_file_name(hidden))
 }

@@ -9,12 +9,13 @@ pub fn encode(picture: &[u8]) -> Vec<u8> {
     [HEADER, picture].concat()
 }
 
-/// The picture in a file, either form.
+/// The picture in a file, either form. One that starts as a PBM is read as one, whatever its length.
 pub fn decode(bytes: &[u8]) -> Result<Vec<u8>, String> {
-    if bytes.len() == PICTURE {
+    let pbm = bytes.starts_with(b"P4") && bytes.get(2).map_or(true, u8::is_ascii_whitespace);
+    if !pbm && bytes.len() == PICTURE {
         return Ok(bytes.to_vec());
     }
-    if !bytes.starts_with(b"P4") {
+    if !pbm {
         return Err(format!("{} bytes: neither a PBM P4 file nor a raw picture of {PICTURE} bytes", bytes.len()));
     }
     let (width, at) = number(bytes, 2)?;
@@ -63,5 +64,7 @@ mod tests {
         for bytes in [b"".as_slice(), b"P4", b"P4\n720 256\n", b"P4\n8 8\n", b"P4 #", b"P1\n1 1\n1"] {
             assert!(decode(bytes).is_err());
         }
+        let whole = encode(&[0x55; PICTURE]);
+        assert!(decode(&whole[..PICTURE]).is_err());
     }
 }
