@@ -16,12 +16,13 @@ use Rattle.power.specs.Power.{freshBoard}
 use Rattle.board.specs.Record.{viewOf}
 use Rattle.picture.specs.Pictures.{painted, shown, drawPicture, refreshPicture}
 use Rattle.runs.specs.Reference.{refreshRefused}
-use Rattle.runs.specs.Events.{Event, step, refresh, others, Machine, stepped, redrawn, Pictures, DrawnWhole}
+use Rattle.runs.specs.Events.{Event, step, refresh, stepAway, refreshAway, others, Machine, stepped, redrawn, steppedAway, redrawnAway, Pictures, DrawnWhole}
 use Rattle.runs.proofs.Accepted.{start-board}
 use Rattle.runs.proofs.Mirroring.{mirror}
 use Rattle.runs.proofs.Painting.{painted-length, painted-at}
 use Rattle.runs.proofs.Standing.{Holds, step-holds}
 use Rattle.runs.proofs.Redrawing.{same, all-shown, kept-outside, refresh-returns, refresh-holds}
+use Rattle.runs.proofs.Away.{step-away, refresh-away}
 use Rattle.runs.proofs.Whole.{first-holds}
 
 module _ (start : List ℕ) (m : Machine) (h : Holds true start m) (e : refreshRefused (mirror (m .board) (m .ram)) (length (m .picture)) ≡ 0) where
@@ -54,6 +55,8 @@ disturbed : (events : List Event) (start : List ℕ) (m : Machine) → Pictures 
 disturbed [] start m = tt
 disturbed (step s boot ∷ es) start m = disturbed es start (stepped m s boot)
 disturbed (refresh ∷ es) start m = (λ u. absurd (true≢false (sym u)), disturbed es start (redrawn m))
+disturbed (stepAway s ram boot ∷ es) start m = λ w. disturbed es start (steppedAway m s ram boot)
+disturbed (refreshAway ram picture ∷ es) start m = λ w. disturbed es start (redrawnAway m ram picture)
 disturbed (others picture ∷ es) start m = disturbed es start (record { board = m .board; ram = m .ram; picture = picture })
 
 pictures : (events : List Event) (start : List ℕ) (m : Machine) → Holds true start m → Pictures true start m events
@@ -61,6 +64,12 @@ pictures [] start m h = tt
 pictures (step s boot ∷ es) start m h = pictures es start (stepped m s boot) (step-holds true start m s boot h)
 pictures (refresh ∷ es) start m h =
     (λ u z. whole start m h (sym (refresh-returns true start m h .refusal) ∙ z), pictures es start (redrawn m) (refresh-holds true start m h))
+pictures (stepAway s ram boot ∷ es) start m h =
+    λ w. subst (λ (b : Board). Pictures true start (record { board = b; ram = m .ram; picture = m .picture }) es)
+    (sym (step-away m s ram boot (h .good-board) w)) (pictures es start m h)
+pictures (refreshAway ram picture ∷ es) start m h =
+    λ w. subst (λ (b : Board). Pictures true start (record { board = b; ram = m .ram; picture = m .picture }) es)
+    (sym (refresh-away m ram picture (h .good-board) w)) (pictures es start m h)
 pictures (others picture ∷ es) start m h = disturbed es start (record { board = m .board; ram = m .ram; picture = picture })
 
 pub drawn-whole : DrawnWhole

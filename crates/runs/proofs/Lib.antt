@@ -1,4 +1,5 @@
 pub mod Accepted
+pub mod Away
 pub mod Drawing
 pub mod Keeping
 pub mod Mirroring

@@ -19,7 +19,7 @@ use Rattle.board.proofs.Good.{good-counter}
 use Rattle.answers.specs.declared.Step.{Step}
 use Rattle.answers.specs.declared.Step.the-variants.{Fetch, Read, Write, PortIn, PortOut, Scan, Key, DiscLine, ExternalLine}
 use Rattle.answers.specs.Steps.{moved, settled, stepRefusal, stepBoard, stepAnswer}
-use Rattle.runs.specs.Events.{Event, step, refresh, others, Machine, stepped, redrawn}
+use Rattle.runs.specs.Events.{Event, step, refresh, stepAway, refreshAway, others, Machine, stepped, redrawn, steppedAway, redrawnAway}
 use Rattle.runs.specs.Ticks.{landed, handed, found, thrown, total, last, TickAccount}
 use Rattle.runs.proofs.Model.{accepted-board, refused-board}
 use Rattle.runs.proofs.Accepted.{step-good, start-board, start-good}
@@ -77,6 +77,14 @@ list-account m (step s boot ∷ es) g =
 list-account m (refresh ∷ es) g =
     let kept = ap (λ (c : Clock). c .counter) (refresh-clock (m .board) (m .ram) (m .picture)) in
     let rest = list-account (redrawn m) es (refresh-good (m .board) (m .ram) (m .picture) g) in
+    omega arith
+list-account m (stepAway s ram boot ∷ es) g =
+    let one = call-account (m .board) ram boot s g in
+    let rest = list-account (steppedAway m s ram boot) es (step-good (m .board) ram boot s g) in
+    omega arith
+list-account m (refreshAway ram picture ∷ es) g =
+    let kept = ap (λ (c : Clock). c .counter) (refresh-clock (m .board) ram picture) in
+    let rest = list-account (redrawnAway m ram picture) es (refresh-good (m .board) ram picture g) in
     omega arith
 list-account m (others picture ∷ es) g = list-account (record { board = m .board; ram = m .ram; picture = picture }) es g
 

@@ -13,10 +13,11 @@ use Rattle.board.specs.declared.record.Board.{Board}
 use Rattle.power.specs.Power.{freshBoard, startRefusal, started}
 use Rattle.board.specs.Record.{shownSet}
 use Rattle.runs.specs.Reference.{Reference, begun}
-use Rattle.runs.specs.Events.{Event, step, refresh, others, Machine, stepped, redrawn, Claims, WholeRuns}
+use Rattle.runs.specs.Events.{Event, step, refresh, stepAway, refreshAway, others, Machine, stepped, redrawn, Claims, WrongRam, WrongLent, WholeRuns}
 use Rattle.runs.proofs.Accepted.{start-board, start-good, start-words}
 use Rattle.runs.proofs.Mirroring.{mirror, mirror-step}
 use Rattle.runs.proofs.Standing.{Holds, agrees, step-holds, step-returns}
+use Rattle.runs.proofs.Away.{step-away, step-away-returns, refresh-away, refresh-away-returns}
 use Rattle.runs.proofs.Redrawing.{shown-member, refresh-holds, refresh-returns, mirror-refresh}
 
 -- the claims from any machine of which these things hold, with the mirror for a reference
@@ -36,6 +37,24 @@ claims (refresh ∷ es) alone start m h = (
     refresh-returns alone start m h,
     subst (λ (r : Reference). Claims alone start (redrawn m) r es) (sym (mirror-refresh alone start m h))
         (claims es alone start (redrawn m) (refresh-holds alone start m h)),
+  ),
+)
+claims (stepAway s ram boot ∷ es) alone start m h = (
+  agrees alone start m h,
+  λ (w : WrongRam (m .board .sizes) ram). (
+    step-away-returns m s ram boot (h .good-board) w,
+    subst (λ (b : Board). Claims alone start (record { board = b; ram = m .ram; picture = m .picture }) (mirror (m .board) (m .ram)) es)
+        (sym (step-away m s ram boot (h .good-board) w))
+        (claims es alone start m h),
+  ),
+)
+claims (refreshAway ram picture ∷ es) alone start m h = (
+  agrees alone start m h,
+  λ (w : WrongLent (m .board .sizes) ram picture). (
+    refresh-away-returns m ram picture (h .good-board) w,
+    subst (λ (b : Board). Claims alone start (record { board = b; ram = m .ram; picture = m .picture }) (mirror (m .board) (m .ram)) es)
+        (sym (refresh-away m ram picture (h .good-board) w))
+        (claims es alone start m h),
   ),
 )
 claims (others picture ∷ es) alone start m h = (

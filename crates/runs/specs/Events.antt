@@ -18,10 +18,13 @@ use Rattle.picture.specs.Pictures.{painted, drawPicture, refreshAnswer, refresh
 use Rattle.runs.specs.Reference.{Reference, viewIn, begun, stepRefused, stepFed, refreshRefused, refreshFed}
 
 -- "The calls are the nine kinds of step and refresh, in any order, refused ones included. The stream may be another at each step."
+-- A call may be lent other memory of a wrong length, as a part of the RAM: then it is away from the run's RAM and picture.
 -- Others may write on the picture between two calls: then it is the list that they leave.
 pub data Event : Type 0 where
   step : Step → List ℕ → Event
   refresh : Event
+  stepAway : Step → List ℕ → List ℕ → Event
+  refreshAway : List ℕ → List ℕ → Event
   others : List ℕ → Event
 
 -- "Each call takes the record the one before returned, and the RAM and picture as that one left them."
@@ -43,6 +46,20 @@ redrawn m = record {
   ram = m .ram;
   picture = refreshPicture (m .board) (m .ram) (m .picture);
 }
+
+-- a call away from the run's RAM and picture takes and returns its record all the same
+abbrev pub steppedAway : Machine → Step → List ℕ → List ℕ → Machine
+steppedAway m s ram boot = record { board = stepAnswer (m .board) ram boot s .board; ram = m .ram; picture = m .picture }
+
+abbrev pub redrawnAway : Machine → List ℕ → List ℕ → Machine
+redrawnAway m ram picture = record { board = refreshAnswer (m .board) ram picture .board; ram = m .ram; picture = m .picture }
+
+-- a lent buffer has the wrong length
+abbrev pub WrongRam : Sizes → List ℕ → Type 0
+WrongRam sizes ram = eqb (length ram) (sizes .total * 16384) ≡ false
+
+abbrev pub WrongLent : Sizes → List ℕ → List ℕ → Type 0
+WrongLent sizes ram picture = (eqb (length ram) (sizes .total * 16384) && eqb (length picture) 23040) ≡ false
 
 -- "From the start on and after each call, the RAM equals the slate's, a line is noted exactly if the slate marks it, and picture bytes
 -- outside the shown lines stand as at the start", the last if nobody else has written on the picture.
@@ -83,6 +100,15 @@ pub record RefreshReturns (alone : Bool) (m : Machine) (r : Reference) : Type 0 
   pub shown : alone ≡ true → refreshRefused r (length (m .picture)) ≡ 0 → (L : ℕ) → L < shownLines (r .rate) → (i : ℕ) → i < 90
       → getD (refreshPicture (m .board) (m .ram) (m .picture)) (90 * L + i) 0 ≡ drawn (viewIn r) L i
 
+-- "2: a lent buffer has the wrong length": a count of 0, and no lent buffer is written to
+abbrev pub StepAwayReturns : Machine → Step → List ℕ → List ℕ → Type 0
+StepAwayReturns m s ram boot = (stepAnswer (m .board) ram boot s .refusal ≡ 2) × (stepRam (m .board) ram boot s ≡ ram)
+
+abbrev pub RefreshAwayReturns : Machine → List ℕ → List ℕ → Type 0
+RefreshAwayReturns m ram picture =
+    (refreshAnswer (m .board) ram picture .refusal ≡ 2)
+    × ((refreshAnswer (m .board) ram picture .count ≡ 0) × (refreshPicture (m .board) ram picture ≡ picture))
+
 -- the claim about a list of events, from a machine and the reference beside it
 abbrev pub Claims : Bool → List ℕ → Machine → Reference → List Event → Type 0
 Claims alone start m r [] = Agrees alone start m r
@@ -90,6 +116,12 @@ Claims alone start m r (step s boot ∷ es) =
     Agrees alone start m r × (StepReturns m r s boot × Claims alone start (stepped m s boot) (stepFed r (length boot) s) es)
 Claims alone start m r (refresh ∷ es) =
     Agrees alone start m r × (RefreshReturns alone m r × Claims alone start (redrawn m) (refreshFed r (length (m .picture))) es)
+Claims alone start m r (stepAway s ram boot ∷ es) =
+    Agrees alone start m r
+    × (WrongRam (r .sizes) ram → StepAwayReturns m s ram boot × Claims alone start (steppedAway m s ram boot) r es)
+Claims alone start m r (refreshAway ram picture ∷ es) =
+    Agrees alone start m r
+    × (WrongLent (r .sizes) ram picture → RefreshAwayReturns m ram picture × Claims alone start (redrawnAway m ram picture) r es)
 Claims alone start m r (others picture ∷ es) =
     Agrees alone start m r × Claims false start (record { board = m .board; ram = m .ram; picture = picture }) r es
 
@@ -111,6 +143,8 @@ Pictures alone start m (refresh ∷ es) =
     → refreshAnswer (m .board) (m .ram) (m .picture) .refusal ≡ 0
     → refreshPicture (m .board) (m .ram) (m .picture) ≡ drawPicture (m .board) (m .ram) start)
     × Pictures alone start (redrawn m) es
+Pictures alone start m (stepAway s ram boot ∷ es) = (WrongRam (m .board .sizes) ram → Pictures alone start (steppedAway m s ram boot) es)
+Pictures alone start m (refreshAway ram picture ∷ es) = (WrongLent (m .board .sizes) ram picture → Pictures alone start (redrawnAway m ram picture) es)
 Pictures alone start m (others picture ∷ es) = Pictures false start (record { board = m .board; ram = m .ram; picture = picture }) es
 
 abbrev pub DrawnWhole : Type 0

@@ -15,7 +15,7 @@ use Rattle.board.specs.Registers.{command}
 use Rattle.answers.specs.declared.Step.{Step}
 use Rattle.answers.specs.declared.Step.the-variants.{Fetch, Read, Write, PortIn, PortOut, Scan, Key, DiscLine, ExternalLine}
 use Rattle.answers.specs.Steps.{stepRefusal}
-use Rattle.runs.specs.Events.{Event, step, refresh, others, Machine, stepped, redrawn}
+use Rattle.runs.specs.Events.{Event, step, refresh, stepAway, refreshAway, others, Machine, stepped, redrawn, steppedAway, redrawnAway}
 
 -- what one accepted step adds to each part of the account
 unfoldable pub landed : Board → Step → ℕ
@@ -70,6 +70,9 @@ unfoldable pub total : (Board → Step → ℕ) → Machine → List Event → �
 total part m [] = 0
 total part m (step s boot ∷ es) = cond (eqb (stepRefusal (m .board) (m .ram) boot s) 0) (part (m .board) s) 0 + total part (stepped m s boot) es
 total part m (refresh ∷ es) = total part (redrawn m) es
+total part m (stepAway s ram boot ∷ es) =
+    cond (eqb (stepRefusal (m .board) ram boot s) 0) (part (m .board) s) 0 + total part (steppedAway m s ram boot) es
+total part m (refreshAway ram picture ∷ es) = total part (redrawnAway m ram picture) es
 total part m (others picture ∷ es) = total part (record { board = m .board; ram = m .ram; picture = picture }) es
 
 -- the machine at the end
@@ -77,6 +80,8 @@ unfoldable pub last : Machine → List Event → Machine
 last m [] = m
 last m (step s boot ∷ es) = last (stepped m s boot) es
 last m (refresh ∷ es) = last (redrawn m) es
+last m (stepAway s ram boot ∷ es) = last (steppedAway m s ram boot) es
+last m (refreshAway ram picture ∷ es) = last (redrawnAway m ram picture) es
 last m (others picture ∷ es) = last (record { board = m .board; ram = m .ram; picture = picture }) es
 
 -- the account, from every accepted power-on, with any RAM and any picture, over every list of events
