@@ -52,10 +52,11 @@ enum {
 
 enum { JOYCE_ROUTE_NONE = 0, JOYCE_ROUTE_NMI = 1, JOYCE_ROUTE_INT = 2 };
 
-/* The record. Flags are 0 or 1. A good record has each field in range, no note on an unshown line,
- * and never route NMI with the disc line on. An accepted power-on gives a good record, and every
- * call but a refused power-on leaves a good one good. Bytes 11, 13, 17 and 27 to 31 are padding: no
- * result depends on them, and what a call leaves there is not promised. Compare fields, not bytes. */
+/* The record: 64 bytes, at an address that is a multiple of 8. Flags are 0 or 1. A good record has
+ * each field in range, no note on an unshown line, and never route NMI with the disc line on. An
+ * accepted power-on gives a good record, and every call but a refused power-on leaves a good one
+ * good. Bytes 11, 13, 17 and 27 to 31 are padding: no result depends on them, and what a call
+ * leaves there is not promised. Compare fields, not bytes. */
 typedef struct { uint8_t internal, total; } joyce_sizes;                        /* blocks */
 typedef struct { uint8_t maps[4]; uint8_t lock; } joyce_paging;                 /* F0 to F3, F4 */
 typedef struct { uint8_t table, top, control; } joyce_video;                    /* F5, F6, F7 */
