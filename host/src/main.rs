@@ -22,7 +22,7 @@ joyce diff A B                  the first place where two pictures differ; exit 
 joyce fuzz [--calls N] [--seed S] [--episode E] [--fault F]
                                 the library against the model (2000000 calls, seed 1);
                                 --fault only with the stand-in
-joyce bench [--ms N]            the library's time beside the model's (20 ms for each)
+joyce bench [--ms N]            the library's time beside the model's (60 ms for each)
 joyce help                      this text
 ";
 

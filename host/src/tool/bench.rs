@@ -8,6 +8,7 @@ use joyce::machine::{Machine, Model, Numbers};
 use joyce::model::{Ask, PowerOn};
 use joyce::model_c::MODEL;
 use joyce::record::{Board, Lines, Paging, Sizes, BLOCK, PICTURE};
+use std::cell::{Cell, RefCell};
 use std::time::{Duration, Instant};
 
 type Outcome = Result<(), String>;
@@ -48,18 +49,48 @@ fn bed(total: u8) -> Bed {
     bed
 }
 
+/// How often the whole table is gone through. What else the machine does for a while meets a row once or twice, not every time.
+const PASSES: u32 = 6;
+
 struct Bench<'m> {
     library: &'m dyn Machine,
+    /// For each machine and row, in one pass.
     budget: Duration,
+    /// The best of each row so far: library, model, model inlined.
+    best: RefCell<Vec<[f64; 3]>>,
+    /// The row that comes next, and whether this pass prints.
+    next: Cell<usize>,
+    last: Cell<bool>,
 }
 
 impl Bench<'_> {
+    /// Writes a line in the last pass.
+    fn line(&self, text: &str) -> Outcome {
+        if self.last.get() {
+            out::line(text)
+        } else {
+            Ok(())
+        }
+    }
+
+    /// What a row took: the best of this pass and those before.
+    fn best(&self, taken: [f64; 3]) -> [f64; 3] {
+        let mut best = self.best.borrow_mut();
+        let row = self.next.get();
+        self.next.set(row + 1);
+        match best.get_mut(row) {
+            Some(found) => found.iter_mut().zip(taken).for_each(|(found, taken)| *found = found.min(taken)),
+            None => best.push(taken),
+        }
+        best[row]
+    }
+
     /// Times the work on each machine from a copy of the same bed.
     fn row(&self, name: &str, bed: &Bed, work: impl Fn(&dyn Machine, &mut Bed, u64)) -> Timed {
         let machines: [&dyn Machine; 3] = [self.library, &MODEL, &Model];
         let mut beds = [bed.clone(), bed.clone(), bed.clone()];
         let mut turns = [0; 3];
-        let [library, model, inlined] = nanoseconds(self.budget, |which, calls| {
+        let [library, model, inlined] = self.best(nanoseconds(self.budget, |which, calls| {
             let (machine, bed) = (black_box(machines[which]), &mut beds[which]);
             let first = turns[which] + 1;
             turns[which] += calls;
@@ -68,8 +99,8 @@ impl Bench<'_> {
                 work(machine, bed, turn);
             }
             start.elapsed()
-        });
-        out::line(&format!("{name:<44}{library:>11.1}{model:>11.1}{:>8.2}{inlined:>11.1}", library / model))?;
+        }));
+        self.line(&format!("{name:<44}{library:>11.1}{model:>11.1}{:>8.2}{inlined:>11.1}", library / model))?;
         Ok(library)
     }
 
@@ -85,17 +116,31 @@ impl Bench<'_> {
 pub fn run(library: &dyn Machine, arguments: &[String]) -> Result<(), String> {
     let args = Args::parse(arguments, &["--ms"])?;
     args.expect_words(0, "flags only")?;
-    let ms = args.number("--ms", 20)?;
+    let ms = args.number("--ms", 60)?;
     if !(1..=10_000).contains(&ms) {
         return Err("--ms: 1 to 10000".to_string());
     }
-    let bench = Bench { library, budget: Duration::from_millis(ms) };
-    out::line(&format!("{:<44}{:>11}{:>11}{:>8}{:>11}", "nanoseconds a call", "library", "model", "ratio", "inlined"))?;
-    steps(&bench)?;
-    stores(&bench)?;
-    pictures(&bench)?;
-    numbers(&bench)?;
-    growth(&bench)
+    let budget = Duration::from_millis(ms) / PASSES;
+    let bench = Bench { library, budget, best: RefCell::default(), next: Cell::default(), last: Cell::default() };
+    for pass in 1..=PASSES {
+        eprintln!("pass {pass} of {PASSES}");
+        bench.next.set(0);
+        bench.last.set(pass == PASSES);
+        table(&bench)?;
+    }
+    Ok(())
+}
+
+fn table(bench: &Bench) -> Outcome {
+    bench.line(&format!(
+        "{:<44}{:>11}{:>11}{:>8}{:>11}",
+        "nanoseconds a call", "library", "model", "ratio", "inlined"
+    ))?;
+    steps(bench)?;
+    stores(bench)?;
+    pictures(bench)?;
+    numbers(bench)?;
+    growth(bench)
 }
 
 fn steps(bench: &Bench) -> Outcome {
@@ -144,7 +189,7 @@ fn pictures(bench: &Bench) -> Outcome {
             bed.board.dirty = Lines::first(black_box(noted));
             keep(machine.refresh(&mut bed.board, &bed.ram, &mut bed.picture));
         })?;
-        out::line(&format!("    of the library's full draw: {:.1} %", 100.0 * time / full))?;
+        bench.line(&format!("    of the library's full draw: {:.1} %", 100.0 * time / full))?;
     }
     let mut far = bed.clone();
     far.board.dirty = Lines::single(255);

@@ -7,7 +7,7 @@ use std::time::Duration;
 /// machine does meets all of them. `round` makes some calls of one candidate and tells how long they took; its rounds
 /// together last about `budget`.
 pub fn nanoseconds<const N: usize>(budget: Duration, mut round: impl FnMut(usize, u64) -> Duration) -> [f64; N] {
-    const ROUNDS: u32 = 10;
+    const ROUNDS: u32 = 5;
     let mut calls = [0; N];
     for (which, calls) in calls.iter_mut().enumerate() {
         *calls = calls_in(budget / ROUNDS, |calls| round(which, calls));
