@@ -42,7 +42,7 @@ pub fn accepts(b: Board, byte: u8, forwarded: bool) -> Taken
     ensures { λ r. ⌜ r ≡ Steps·accepts b byte forwarded ⌝ }
 {
     Taken {
-        board: b.by_fields(),
+        board: copies::by_fields(b),
         byte,
         forwarded,
         refusal: 0,
@@ -54,7 +54,7 @@ pub fn refuses(b: Board, refusal: u8) -> Taken
     ensures { λ r. ⌜ r ≡ Steps·refuses b refusal ⌝ }
 {
     Taken {
-        board: b.by_fields(),
+        board: copies::by_fields(b),
         byte: 0,
         forwarded: false,
         refusal,

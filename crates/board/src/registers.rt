@@ -127,7 +127,7 @@ impl Board {
         }
         let v = self.video;
         let dirty = self.dirty;
-        let touched = scanline::touched(ram, v.table, v.top, at);
+        let touched = touching::touched(ram, v.table, v.top, at);
         let mut b = self;
         b.dirty = lineops::union(
             dirty,

@@ -26,7 +26,7 @@ fn accepted(b: Board, byte: u8, forwarded: bool) -> Answer
 {
     let int = int_line(b);
     let nmi = nmi_line(b);
-    let mut board = b.by_fields();
+    let mut board = copies::by_fields(b);
     if nmi {
         board.disc.route = 0;
     }

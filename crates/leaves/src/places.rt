@@ -60,14 +60,14 @@ fn bytes(ram: &[u8]) {
 }
 
 fn touches(ram: &[u8]) {
-    counted(b"000000 ", scanline::touched(ram, 0, 0, 0));
-    counted(b"000001 ", scanline::touched(ram, 0, 0, 1));
-    counted(b"000002, from top line 2 ", scanline::touched(ram, 0, 2, 2));
-    counted(b"000008 ", scanline::touched(ram, 0, 0, 8));
-    counted(b"000401 ", scanline::touched(ram, 0, 0, 0x401));
-    counted(b"0006c9 ", scanline::touched(ram, 0, 0, 0x6c9));
-    counted(b"004000 ", scanline::touched(ram, 0, 0, 0x4000));
-    counted(b"020000 ", scanline::touched(ram, 0, 0, 0x20000));
+    counted(b"000000 ", touching::touched(ram, 0, 0, 0));
+    counted(b"000001 ", touching::touched(ram, 0, 0, 1));
+    counted(b"000002, from top line 2 ", touching::touched(ram, 0, 2, 2));
+    counted(b"000008 ", touching::touched(ram, 0, 0, 8));
+    counted(b"000401 ", touching::touched(ram, 0, 0, 0x401));
+    counted(b"0006c9 ", touching::touched(ram, 0, 0, 0x6c9));
+    counted(b"004000 ", touching::touched(ram, 0, 0, 0x4000));
+    counted(b"020000 ", touching::touched(ram, 0, 0, 0x20000));
 }
 
 // A table at block 0: line 0 has the word 0201h, line 255 of the second table 9897h.

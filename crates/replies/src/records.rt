@@ -21,7 +21,7 @@ use steps::take;
 fn stepped(b: Board, kind: u32, number: u32, value: u32, ram: &mut [u8], boot: &[u8]) -> Answer
     ensures { λ r. ⌜ (r ≡ stepAnswer b (now (ram .entry)) (now (boot .entry)) (asked kind number value)) × (now (ram .exit) ≡ stepRam b (now (ram .entry)) (now (boot .entry)) (asked kind number value)) ⌝ }
 {
-    let c = b.by_fields();
+    let c = copies::by_fields(b);
     let n = lent(c, ram.len(), boot.len());
     if n != 0 {
         return refused(c, n);

@@ -34,7 +34,7 @@ pub fn take_write(b: Board, address: u16, value: u8, ram: &mut [u8], boot: &[u8]
         return accepts(b, 0, false);
     }
     // A copy is lent to `store`, and only the dirty lines are taken back: the record itself stays where it is.
-    let stored = b.by_fields().store(ram, at, value);
+    let stored = copies::by_fields(b).store(ram, at, value);
     let dirty = stored.dirty;
     put(ram, at, value);
     let mut after = b;
@@ -50,7 +50,7 @@ pub fn take_key(b: Board, offset: u8, value: u8, ram: &mut [u8], boot: &[u8]) ->
         return refuses(b, 3);
     }
     let at = keyboard_place(offset);
-    let keyed = b.by_fields().store(ram, at, value);
+    let keyed = copies::by_fields(b).store(ram, at, value);
     let dirty = keyed.dirty;
     put(ram, at, value);
     let mut after = b;

@@ -6,10 +6,10 @@ use native.Mathlib.Omega.{arith}
 use borrow.Author.Needs.{needs}
 use lib.ListN.{length, length-set}
 use mir.Val.{boolByte}
 use Rattle.scanline.specs.Drawing.{pixelTouched}
-use Rattle.scanline.proofs.Marks.{Twice, twice-none, twice-more, twice-all, shows, shows-round}
-use Rattle.scanline.proofs.mark_pixels.Statement.{statement}
-use Rattle.scanline.proofs.mark_pixels.Tie as tie
+use Rattle.touching.proofs.Marks.{Twice, twice-none, twice-more, twice-all, shows, shows-round}
+use Rattle.touching.proofs.mark_pixels.Statement.{statement}
+use Rattle.touching.proofs.mark_pixels.Tie as tie
 
 abbrev Inv-loop : tie.InvT-loop
 Inv-loop ram table at marks₀ e₀ marks e = (e ≤ 256) × (length marks ≡ 512) × Twice (shows ram table at) marks e

@@ -6,10 +6,10 @@ use native.Mathlib.Omega.{arith}
 use denote.Ref.{now}
 use lib.ListN.{getD}
 use Rattle.lineset.specs.Lines.{packed}
-use Rattle.scanline.proofs.Marks.{marked, marks-down, marks-end}
+use Rattle.touching.proofs.Marks.{marked, marks-down, marks-end}
 use Rattle.scanline.proofs.Packed.{packed-start, packed-fits}
-use Rattle.scanline.proofs.marked_word.Statement.{statement}
-use Rattle.scanline.proofs.marked_word.Tie as tie
+use Rattle.touching.proofs.marked_word.Statement.{statement}
+use Rattle.touching.proofs.marked_word.Tie as tie
 
 abbrev Inv-loop : tie.InvT-loop
 Inv-loop marks from m₀ i₀ m i = (i ≤ 64) × (m ≡ packed (marked marks) (from + i) (64 - i))

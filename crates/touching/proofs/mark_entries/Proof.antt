@@ -3,9 +3,9 @@
 use native.Mathlib.Omega.{arith}
 use borrow.Author.Needs.{needs}
 use lib.ListN.{length-set}
-use Rattle.scanline.proofs.Marks.{within, outside}
-use Rattle.scanline.proofs.mark_entries.Statement.{statement}
-use Rattle.scanline.proofs.mark_entries.Tie as tie
+use Rattle.touching.proofs.Marks.{within, outside}
+use Rattle.touching.proofs.mark_entries.Statement.{statement}
+use Rattle.touching.proofs.mark_entries.Tie as tie
 
 mark-pixels-requires : tie.Need-mark-pixels-requires
 mark-pixels-requires c κs = search needs

@@ -2,9 +2,9 @@
 -- Assumes nothing.
 use mathlib.Core.Path.{sym}
 use borrow.Author.Needs.{needs}
 use Rattle.scanline.proofs.Pixels.{word-touched}
-use Rattle.scanline.proofs.pixel_hit.Statement.{statement}
-use Rattle.scanline.proofs.pixel_hit.Tie as tie
+use Rattle.touching.proofs.pixel_hit.Statement.{statement}
+use Rattle.touching.proofs.pixel_hit.Tie as tie
 
 cast-block : tie.Need-cast-block
 cast-block c = search needs

@@ -9,12 +9,12 @@ use borrow.Author.Needs.{needs}
 use denote.Ref.{now}
 use lib.ListN.{length, getD}
 use mir.Val.{boolByte}
 use Rattle.scanline.specs.Drawing.{touches}
 use Rattle.lineset.proofs.Operations.{four-words}
-use Rattle.scanline.proofs.Marks.{marks-small, word-first, word-top}
+use Rattle.touching.proofs.Marks.{marks-small, word-first, word-top}
 use Rattle.scanline.proofs.Touches.{touches-past, set-none}
-use Rattle.scanline.proofs.touched.Statement.{statement}
-use Rattle.scanline.proofs.touched.Tie as tie
+use Rattle.touching.proofs.touched.Statement.{statement}
+use Rattle.touching.proofs.touched.Tie as tie
 
 -- the marks, all 512 of them, and what they tell
 abbrev marks : tie.After-mark-entries → List ℕ
