@@ -10,7 +10,7 @@ fn main() {
         return;
     }
     let folder = library_folder();
-    let archive = folder.join("libfirmware.a");
+    let archive = folder.join("libjoyce.a");
     println!("cargo:rerun-if-changed={}", archive.display());
     if !archive.is_file() {
         println!(
@@ -19,7 +19,7 @@ fn main() {
         );
     }
     println!("cargo:rustc-link-search=native={}", folder.display());
-    println!("cargo:rustc-link-lib=static=firmware");
+    println!("cargo:rustc-link-lib=static=joyce");
 }
 
 fn library_folder() -> PathBuf {

@@ -1,4 +1,4 @@
-/* The Joyce main board: paging, lent RAM, channels, timer, beam, interrupt lines, keyboard table
+/* The Joyce main board: paging, lent RAM, ports, timer, beam, interrupt lines, keyboard table
  * and picture. C11 and C++.
  *
  * Every input is taken: any bytes in a record, any length, any number. What a function does not
@@ -20,11 +20,14 @@ extern "C" {
 #define JOYCE_ASSERT(what) _Static_assert(what, #what)
 #endif
 
+/* The version of this interface. A change of the record's layout or of a reply raises it. */
+#define JOYCE_VERSION 1u
+
 #define JOYCE_BLOCK 16384u        /* bytes in a block; RAM is lent as total x 16,384 bytes */
 #define JOYCE_LINE 90u            /* bytes in a line, leftmost pixel in the top bit */
 #define JOYCE_WIDE_LINE 180u      /* bytes in a widened line */
 #define JOYCE_PICTURE 23040u      /* bytes in a picture: 256 lines of 90 */
-#define JOYCE_STREAM 1024u        /* the longest boot stream */
+#define JOYCE_BOOT_MAX 1024u      /* bytes in the longest boot stream */
 
 /* Refusal numbers, checked in this order; the first that applies is given. */
 enum {
@@ -33,8 +36,8 @@ enum {
     JOYCE_BAD_RECORD = 1,         /* the record is not good */
     JOYCE_BAD_LENGTH = 2,         /* a lent buffer has the wrong length */
     JOYCE_BAD_NUMBER = 3,         /* a number out of range, or given where none is taken */
-    JOYCE_STREAM_ENDED = 4,       /* fetch in boot mode, stream place at or past the stream's end */
-    JOYCE_NO_CHANNEL = 5          /* not a channel of this board */
+    JOYCE_STREAM_ENDED = 4,       /* fetch in boot mode, boot.at at or past the boot stream's end */
+    JOYCE_NO_PORT = 5             /* not a port (document 01: channel) of this board */
 };
 
 /* Kinds of step. */
@@ -42,8 +45,8 @@ enum {
     JOYCE_FETCH = 1,              /* number: address */
     JOYCE_READ = 2,               /* number: address */
     JOYCE_WRITE = 3,              /* number: address; value */
-    JOYCE_IN = 4,                 /* number: channel */
-    JOYCE_OUT = 5,                /* number: channel; value */
+    JOYCE_IN = 4,                 /* number: port */
+    JOYCE_OUT = 5,                /* number: port; value */
     JOYCE_SCAN = 6,
     JOYCE_KEYBOARD = 7,           /* number: offset 0 to 15; value */
     JOYCE_DISC_LINE = 8,          /* value: 0 off, 1 on */
@@ -53,7 +56,7 @@ enum {
 enum { JOYCE_ROUTE_NONE = 0, JOYCE_ROUTE_NMI = 1, JOYCE_ROUTE_INT = 2 };
 
 /* The record: 64 bytes, at an address that is a multiple of 8. Flags are 0 or 1. A good record has
- * each field in range, no note on an unshown line, and never route NMI with the disc line on. An
+ * each field in range, no unshown line dirty, and never route NMI with the disc line on. An
  * accepted power-on gives a good record, and every call but a refused power-on leaves a good one
  * good. Bytes 11, 13, 17 and 27 to 31 are padding: no result depends on them, and what a call
  * leaves there is not promised. Compare fields, not bytes. */
@@ -61,7 +64,7 @@ typedef struct { uint8_t internal, total; } joyce_sizes;                        
 typedef struct { uint8_t maps[4]; uint8_t lock; } joyce_paging;                 /* F0 to F3, F4 */
 typedef struct { uint8_t table, top, control; } joyce_video;                    /* F5, F6, F7 */
 typedef struct { uint8_t counter; uint16_t beam; } joyce_clock;                 /* 0 to 15; 0 to 311 or 259 */
-typedef struct { uint8_t mode; uint16_t at; } joyce_boot;                       /* at: 0 to 1,024 */
+typedef struct { uint8_t mode; uint16_t at; } joyce_boot;                       /* at: in the boot stream, 0 to 1,024 */
 typedef struct { uint8_t route, line, terminal_count, motor; } joyce_disc;
 typedef struct { uint64_t words[4]; } joyce_lines;                              /* line L: bit L % 64 of words[L / 64] */
 typedef struct {
@@ -73,7 +76,7 @@ typedef struct {
     joyce_boot boot;
     joyce_disc disc;
     uint8_t external, driven, bleeper;
-    joyce_lines dirty;                                                          /* the notes */
+    joyce_lines dirty;                                                          /* to be redrawn (document 01: noted) */
 } joyce_board;
 
 JOYCE_ASSERT(sizeof(joyce_sizes) == 2);
@@ -105,39 +108,42 @@ JOYCE_ASSERT(offsetof(joyce_board, driven) == 25);
 JOYCE_ASSERT(offsetof(joyce_board, bleeper) == 26);
 JOYCE_ASSERT(offsetof(joyce_board, dirty) == 32);
 
-/* Powers a board on: boot mode, stream place 0, route none, terminal count on, driven, motor and
- * bleeper off, counter 0, F7 = 0, beam 0, both lines off, all shown lines noted; the rest as given.
- * internal is 8, 16 or 32, total from internal to 128, rate 50 or 60; otherwise refusal 6 and a
- * record of zeros. */
+/* The JOYCE_VERSION that the library was built with. */
+uint32_t joyce_version(void);
+
+/* Powers a board on: boot mode, boot.at 0, route none, terminal count on, driven, motor and
+ * bleeper off, counter 0, F7 = 0, beam 0, disc line and external line off, all shown lines dirty;
+ * the rest as given. internal is 8, 16 or 32, total from internal to 128, rate 50 or 60; otherwise
+ * refusal 6 and a record of zeros. */
 uint64_t joyce_power_on(joyce_board *board, uint8_t internal, uint8_t total, uint8_t rate,
                         uint8_t f0, uint8_t f1, uint8_t f2, uint8_t f3, uint8_t lock,
                         uint8_t f5, uint8_t f6);
 
-/* Makes one step on the record and the RAM. Reply: byte (0 where there is none), INT, NMI, passed
- * on, refusal 1 to 5. A step notes a shown line exactly if F5, F6, or D7 or D6 of F7 comes to
- * differ, or the line's pointer word, or one of the 90 bytes named by its pointer before. NMI is
- * shown once; the route is none afterwards. After a refusal the lines are those of the record, off
- * for 1. The stream is at most 1,024 bytes and only read by a fetch in boot mode; where there is
- * none, boot_len is 0 and boot is any address but null. A kind outside 1
- * to 9, a number or value wider than the kind takes, and one other than 0 that it does not take are
- * refused with 3, after 1 and 2. */
+/* Makes one step on the record and the RAM. Reply: byte (0 where there is none), INT, NMI,
+ * forwarded, refusal 1 to 5. A step makes a shown line dirty exactly if F5, F6, or D7 or D6 of F7
+ * comes to differ, or the line's pointer word, or one of the 90 bytes named by its pointer before.
+ * NMI is shown once; the route is none afterwards. After a refusal INT and NMI are those of the
+ * record, off for 1. The boot stream is at most 1,024 bytes and only read by a fetch in boot mode;
+ * where there is none, boot_len is 0 and boot is any address but null. A kind outside 1 to 9, a
+ * number or value wider than the kind takes, and one other than 0 that it does not take are refused
+ * with 3, after 1 and 2. */
 uint64_t joyce_step(joyce_board *board, uint32_t kind, uint32_t number, uint32_t value,
                     uint8_t *ram, size_t ram_len, const uint8_t *boot, size_t boot_len);
 
 /* Writes all shown lines of the picture (256 on 50 Hz, 200 on 60 Hz) and no other byte; the record
- * stays. Reply: floats, refusal 1 or 2. */
+ * stays. Reply: floating, refusal 1 or 2. */
 uint64_t joyce_draw(const joyce_board *board, const uint8_t *ram, size_t ram_len,
                     uint8_t *picture, size_t picture_len);
 
-/* Writes the noted lines of the picture, as draw would, and no other byte; clears the notes.
- * Reply: count (the number of notes before), floats, refusal 1 or 2. */
+/* Writes the dirty lines of the picture, as draw would, and no other byte; no line is dirty
+ * afterwards. Reply: count (the number of dirty lines before), floating, refusal 1 or 2. */
 uint64_t joyce_refresh(joyce_board *board, const uint8_t *ram, size_t ram_len,
                        uint8_t *picture, size_t picture_len);
 
-/* The first noted line at or after n (0 to 255). Reply: found, line, refusal 1 or 3. */
-uint64_t joyce_next_noted(const joyce_board *board, uint32_t n);
+/* The first dirty line at or after n (0 to 255). Reply: found, line, refusal 1 or 3. */
+uint64_t joyce_next_dirty(const joyce_board *board, uint32_t n);
 
-/* The first place, in reading order, where two pictures differ. Reply: found, line, pixel (0 to
+/* The first position, in reading order, where two pictures differ. Reply: found, line, pixel (0 to
  * 719), refusal 2. All 256 lines count. */
 uint64_t joyce_first_difference(const uint8_t *a, size_t a_len, const uint8_t *b, size_t b_len);
 
@@ -164,9 +170,9 @@ static inline uint8_t joyce_byte(uint64_t reply) { return (uint8_t)reply; }     
 static inline uint16_t joyce_count(uint64_t reply) { return (uint16_t)reply; }         /* of a refresh */
 static inline int joyce_int(uint64_t reply) { return (int)(reply >> 16 & 1); }
 static inline int joyce_nmi(uint64_t reply) { return (int)(reply >> 17 & 1); }
-static inline int joyce_forwarded(uint64_t reply) { return (int)(reply >> 18 & 1); }   /* passed on to the host */
-static inline int joyce_floats(uint64_t reply) { return (int)(reply >> 19 & 1); }
-static inline int joyce_found(uint64_t reply) { return (int)(reply >> 20 & 1); }       /* a line or place was found */
+static inline int joyce_forwarded(uint64_t reply) { return (int)(reply >> 18 & 1); }   /* to the host (document 01: passed on) */
+static inline int joyce_floating(uint64_t reply) { return (int)(reply >> 19 & 1); }    /* the video is not driven */
+static inline int joyce_found(uint64_t reply) { return (int)(reply >> 20 & 1); }       /* a line or position was found */
 static inline uint8_t joyce_line(uint64_t reply) { return (uint8_t)reply; }
 static inline uint16_t joyce_pixel(uint64_t reply) { return (uint16_t)(reply >> 40); }
 static inline uint8_t joyce_refusal(uint64_t reply) { return (uint8_t)(reply >> 32); }

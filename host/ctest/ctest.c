@@ -30,15 +30,15 @@ static void check_power_on(joyce_board *board) {
     check("power-on", (long)joyce_power_on(board, 8, 8, 50, 0x80, 0x81, 0x25, 0x83, 0x00, 0x00, 0x00), 0);
     check("boot mode", board->boot.mode, 1);
     check("terminal count", board->disc.terminal_count, 1);
-    check("line 255 noted", (long)(board->dirty.words[3] >> 63), 1);
+    check("line 255 dirty", (long)(board->dirty.words[3] >> 63), 1);
 }
 
 static void check_steps(joyce_board *board) {
-    static const uint8_t stream[2] = {0x3E, 0x07};
-    uint64_t reply = joyce_step(board, JOYCE_FETCH, 0x1234, 0, ram, sizeof ram, stream, 2);
+    static const uint8_t boot[2] = {0x3E, 0x07};
+    uint64_t reply = joyce_step(board, JOYCE_FETCH, 0x1234, 0, ram, sizeof ram, boot, 2);
     check("boot fetch", joyce_byte(reply), 0x3E);
-    check("stream place", board->boot.at, 1);
-    check("stream ended", joyce_refusal(step(board, JOYCE_FETCH, 0, 0)), JOYCE_STREAM_ENDED);
+    check("boot at", board->boot.at, 1);
+    check("boot stream ended", joyce_refusal(step(board, JOYCE_FETCH, 0, 0)), JOYCE_STREAM_ENDED);
     check("end boot", joyce_refusal(step(board, JOYCE_OUT, 0xF8, 0)), 0);
     check("video on", joyce_refusal(step(board, JOYCE_OUT, 0xF7, 0x40)), 0);
     check("split write", joyce_refusal(step(board, JOYCE_WRITE, 0x8003, 0x77)), 0);
@@ -49,8 +49,8 @@ static void check_steps(joyce_board *board) {
     check("INT after a tick", joyce_int(reply), 1);
     check("F4", joyce_byte(step(board, JOYCE_IN, 0xF4, 0)), 0x51);
     check("F8 after F4", joyce_byte(step(board, JOYCE_IN, 0xF8, 0)), 0x50);
-    check("passed on", joyce_forwarded(step(board, JOYCE_IN, 0x00, 0)), 1);
-    check("no channel", joyce_refusal(step(board, JOYCE_OUT, 0x00, 0)), JOYCE_NO_CHANNEL);
+    check("forwarded", joyce_forwarded(step(board, JOYCE_IN, 0x00, 0)), 1);
+    check("no port", joyce_refusal(step(board, JOYCE_OUT, 0x00, 0)), JOYCE_NO_PORT);
     check("offset 16", joyce_refusal(step(board, JOYCE_KEYBOARD, 16, 0)), JOYCE_BAD_NUMBER);
     check("keyboard word", joyce_refusal(step(board, JOYCE_KEYBOARD, 15, 9)), 0);
     check("keyboard byte", ram[4 * JOYCE_BLOCK - 1], 9);
@@ -64,15 +64,15 @@ static void check_steps(joyce_board *board) {
 
 static void check_picture(joyce_board *board) {
     check("refresh", joyce_count(joyce_refresh(board, ram, sizeof ram, picture, sizeof picture)), 256);
-    check("none noted", joyce_found(joyce_next_noted(board, 0)), 0);
+    check("none dirty", joyce_found(joyce_next_dirty(board, 0)), 0);
     /* Line 7 gets a line of its own, starting at block 1, 1930h. */
     step(board, JOYCE_WRITE, 14, 0x98);
     step(board, JOYCE_WRITE, 15, 0x2C);
     step(board, JOYCE_WRITE, 0x4000 + 0x1930, 0xA5);
-    check("line 7 noted", joyce_line(joyce_next_noted(board, 1)), 7);
-    check("n 256", joyce_refusal(joyce_next_noted(board, 256)), JOYCE_BAD_NUMBER);
+    check("line 7 dirty", joyce_line(joyce_next_dirty(board, 1)), 7);
+    check("n 256", joyce_refusal(joyce_next_dirty(board, 256)), JOYCE_BAD_NUMBER);
     step(board, JOYCE_OUT, 0xF8, 8);
-    check("floats", joyce_floats(joyce_refresh(board, ram, sizeof ram, picture, sizeof picture)), 1);
+    check("floating", joyce_floating(joyce_refresh(board, ram, sizeof ram, picture, sizeof picture)), 1);
     check("drawn byte", picture[7 * JOYCE_LINE], 0xA5);
     check("draw", joyce_refusal(joyce_draw(board, ram, sizeof ram, other, sizeof other)), 0);
     check("refresh as draw", memcmp(picture, other, sizeof other), 0);
@@ -87,6 +87,7 @@ static void check_picture(joyce_board *board) {
 }
 
 static void check_numbers(void) {
+    check("version", (long)joyce_version(), (long)JOYCE_VERSION);
     uint8_t line[JOYCE_LINE] = {0xA5}, wide[JOYCE_WIDE_LINE];
     check("widen", joyce_widen(line, sizeof line, wide, sizeof wide), 0);
     check("widened", wide[0] << 8 | wide[1], 0xCC33);

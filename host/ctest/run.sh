@@ -1,9 +1,9 @@
 #!/bin/sh
-# Builds and runs ctest.c as C11 and as C++ against libfirmware.a in the folder JOYCE_LIB. The proved library needs no other;
+# Builds and runs ctest.c as C11 and as C++ against libjoyce.a in the folder JOYCE_LIB. The proved library needs no other;
 # JOYCE_LINK names what another archive needs.
 set -eu
 here=$(cd "$(dirname "$0")" && pwd)
-lib=${JOYCE_LIB:-$here/../../target/staticlib}/libfirmware.a
+lib=${JOYCE_LIB:-$here/../../target/staticlib}/libjoyce.a
 out=$(mktemp -d)
 trap 'rm -rf "$out"' EXIT
 strict="-Wall -Wextra -Werror -pedantic"

@@ -4,6 +4,7 @@ use crate::interface::Interface;
 use crate::record::Board;
 
 extern "C" {
+    fn joyce_version() -> u32;
     fn joyce_power_on(
         board: *mut Board,
         internal: u8,
@@ -29,7 +30,7 @@ extern "C" {
     ) -> u64;
     fn joyce_draw(board: *const Board, ram: *const u8, ram_len: usize, picture: *mut u8, picture_len: usize) -> u64;
     fn joyce_refresh(board: *mut Board, ram: *const u8, ram_len: usize, picture: *mut u8, picture_len: usize) -> u64;
-    fn joyce_next_noted(board: *const Board, n: u32) -> u64;
+    fn joyce_next_dirty(board: *const Board, n: u32) -> u64;
     fn joyce_first_difference(a: *const u8, a_len: usize, b: *const u8, b_len: usize) -> u64;
     fn joyce_widen(line: *const u8, line_len: usize, out: *mut u8, out_len: usize) -> u8;
     fn joyce_make_pointer(block: u32, start: u32) -> u64;
@@ -41,11 +42,12 @@ extern "C" {
 /// The linked library.
 #[allow(non_upper_case_globals)]
 pub const Library: Interface = Interface {
+    version: joyce_version,
     power_on: joyce_power_on,
     step: joyce_step,
     draw: joyce_draw,
     refresh: joyce_refresh,
-    next_noted: joyce_next_noted,
+    next_dirty: joyce_next_dirty,
     first_difference: joyce_first_difference,
     widen: joyce_widen,
     make_pointer: joyce_make_pointer,

@@ -7,19 +7,19 @@ mod call;
 mod edges;
 mod fill;
 mod generate;
-mod odd;
+mod pair;
 mod rng;
 mod shrink;
 mod sweep;
-mod world;
+mod unusual;
 
 use crate::machine::Machine;
 use call::{Call, Fill, Setup};
 use generate::Generator;
+use pair::Pair;
+pub use pair::Tally;
 pub use rng::Rng;
 use std::fmt;
-pub use world::Tally;
-use world::World;
 
 /// Calls in one episode.
 const EPISODE: u64 = 500;
@@ -75,7 +75,7 @@ impl fmt::Display for Failure {
     }
 }
 
-/// Runs the test; `progress` is told the calls made so far, now and then.
+/// Runs the test; `progress` gets the number of calls made so far, now and then.
 pub fn run(library: &dyn Machine, options: &Options, mut progress: impl FnMut(u64)) -> Result<Passed, Box<Failure>> {
     let sweep_calls = if options.sweep { swept(library, options)? } else { 0 };
     let mut calls = 0;
@@ -105,16 +105,16 @@ fn swept(library: &dyn Machine, options: &Options) -> Result<u64, Box<Failure>> 
 fn run_episode(library: &dyn Machine, seed: u64, episode: u64, length: u64) -> Result<Tally, Box<Failure>> {
     let mut generator = Generator::new(Rng::episode(seed, episode));
     let setup = generator.setup;
-    let mut world = World::new(library, &setup, WHOLE_RAM_EVERY);
+    let mut pair = Pair::new(library, &setup, WHOLE_RAM_EVERY);
     let mut list = Vec::with_capacity(length as usize);
     let mut outcome = Ok(());
     while outcome.is_ok() && (list.len() as u64) < length {
-        let call = generator.next(&world);
-        outcome = world.make(&call);
+        let call = generator.next(&pair);
+        outcome = pair.make(&call);
         list.push(call);
     }
-    match outcome.and_then(|()| world.compare_all()) {
-        Ok(()) => Ok(world.tally),
+    match outcome.and_then(|()| pair.compare_all()) {
+        Ok(()) => Ok(pair.tally),
         Err(difference) => {
             let calls_before = list.len() as u64;
             let (setup, list, difference) = cut_down(library, setup, list, difference);
@@ -123,14 +123,14 @@ fn run_episode(library: &dyn Machine, seed: u64, episode: u64, length: u64) -> R
     }
 }
 
-/// The first difference of a list made anew, everything compared after each call.
-fn made_anew(library: &dyn Machine, setup: &Setup, list: &[Call]) -> Result<(), String> {
-    let mut world = World::new(library, setup, 1);
-    list.iter().try_for_each(|call| world.make(call))
+/// The first difference of a list that is made again, everything compared after each call.
+fn run_again(library: &dyn Machine, setup: &Setup, list: &[Call]) -> Result<(), String> {
+    let mut pair = Pair::new(library, setup, 1);
+    list.iter().try_for_each(|call| pair.make(call))
 }
 
 fn cut_down(library: &dyn Machine, setup: Setup, list: Vec<Call>, difference: String) -> (Setup, Vec<Call>, String) {
-    let fails = |setup: &Setup, list: &[Call]| made_anew(library, setup, list).is_err();
+    let fails = |setup: &Setup, list: &[Call]| run_again(library, setup, list).is_err();
     if !fails(&setup, &list) {
         // Differs only when made in one go: the whole list is all there is to show.
         return (setup, list, difference);
@@ -138,7 +138,7 @@ fn cut_down(library: &dyn Machine, setup: Setup, list: Vec<Call>, difference: St
     let plain = Setup { fill: Fill::Zero, ..setup };
     let setup = if fails(&plain, &list) { plain } else { setup };
     let list = shrink::shrink(&list, |tried| fails(&setup, tried));
-    let difference = made_anew(library, &setup, &list).err().unwrap_or(difference);
+    let difference = run_again(library, &setup, &list).err().unwrap_or(difference);
     (setup, list, difference)
 }
 

@@ -3,21 +3,22 @@
 //! Each call lends slices for its own length. No function keeps a pointer; each takes any bytes and
 //! lengths, and writes only where it is lent something to write to.
 
-use crate::machine::{Machine, Numbers};
-use crate::model::{Ask, PowerOn};
+use crate::machine::{Machine, StepNumbers};
+use crate::model::{Access, PowerOn};
 use crate::record::Board;
 use crate::reply::Reply;
 
-type Step = unsafe extern "C" fn(*mut Board, u32, u32, u32, *mut u8, usize, *const u8, usize) -> u64;
-type Bytes10 = unsafe extern "C" fn(*mut Board, u8, u8, u8, u8, u8, u8, u8, u8, u8, u8) -> u64;
+type StepFn = unsafe extern "C" fn(*mut Board, u32, u32, u32, *mut u8, usize, *const u8, usize) -> u64;
+type PowerOnFn = unsafe extern "C" fn(*mut Board, u8, u8, u8, u8, u8, u8, u8, u8, u8, u8) -> u64;
 
 /// Only this crate makes one, of functions that keep to the above.
 pub struct Interface {
-    pub(crate) power_on: Bytes10,
-    pub(crate) step: Step,
+    pub(crate) version: unsafe extern "C" fn() -> u32,
+    pub(crate) power_on: PowerOnFn,
+    pub(crate) step: StepFn,
     pub(crate) draw: unsafe extern "C" fn(*const Board, *const u8, usize, *mut u8, usize) -> u64,
     pub(crate) refresh: unsafe extern "C" fn(*mut Board, *const u8, usize, *mut u8, usize) -> u64,
-    pub(crate) next_noted: unsafe extern "C" fn(*const Board, u32) -> u64,
+    pub(crate) next_dirty: unsafe extern "C" fn(*const Board, u32) -> u64,
     pub(crate) first_difference: unsafe extern "C" fn(*const u8, usize, *const u8, usize) -> u64,
     pub(crate) widen: unsafe extern "C" fn(*const u8, usize, *mut u8, usize) -> u8,
     pub(crate) make_pointer: unsafe extern "C" fn(u32, u32) -> u64,
@@ -27,6 +28,11 @@ pub struct Interface {
 }
 
 impl Machine for Interface {
+    fn version(&self) -> u32 {
+        // SAFETY: it takes nothing and writes nothing.
+        unsafe { (self.version)() }
+    }
+
     fn power_on(&self, board: &mut Board, on: &PowerOn) -> Reply {
         let [f0, f1, f2, f3] = on.maps;
         // SAFETY: the board is a live record of the layout of the C interface.
@@ -47,11 +53,11 @@ impl Machine for Interface {
         })
     }
 
-    fn step(&self, board: &mut Board, step: Numbers, ram: &mut [u8], stream: &[u8]) -> Reply {
-        let Numbers { kind, number, value } = step;
+    fn step(&self, board: &mut Board, step: StepNumbers, ram: &mut [u8], boot: &[u8]) -> Reply {
+        let StepNumbers { kind, number, value } = step;
         // SAFETY: record and slices live through the call and do not overlap.
         Reply(unsafe {
-            (self.step)(board, kind, number, value, ram.as_mut_ptr(), ram.len(), stream.as_ptr(), stream.len())
+            (self.step)(board, kind, number, value, ram.as_mut_ptr(), ram.len(), boot.as_ptr(), boot.len())
         })
     }
 
@@ -65,9 +71,9 @@ impl Machine for Interface {
         Reply(unsafe { (self.refresh)(board, ram.as_ptr(), ram.len(), picture.as_mut_ptr(), picture.len()) })
     }
 
-    fn next_noted(&self, board: &Board, n: u32) -> Reply {
+    fn next_dirty(&self, board: &Board, n: u32) -> Reply {
         // SAFETY: the record is only read.
-        Reply(unsafe { (self.next_noted)(board, n) })
+        Reply(unsafe { (self.next_dirty)(board, n) })
     }
 
     fn first_difference(&self, a: &[u8], b: &[u8]) -> Reply {
@@ -95,10 +101,10 @@ impl Machine for Interface {
         unsafe { (self.roll)(old, new) }
     }
 
-    fn reach(&self, ask: &Ask) -> Reply {
-        let [f0, f1, f2, f3] = ask.paging.maps;
-        let lock = ask.paging.lock;
+    fn reach(&self, access: &Access) -> Reply {
+        let [f0, f1, f2, f3] = access.paging.maps;
+        let lock = access.paging.lock;
         // SAFETY: plain numbers.
-        Reply(unsafe { (self.reach)(ask.sizes.internal, ask.sizes.total, f0, f1, f2, f3, lock, ask.address) })
+        Reply(unsafe { (self.reach)(access.sizes.internal, access.sizes.total, f0, f1, f2, f3, lock, access.address) })
     }
 }

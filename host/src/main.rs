@@ -18,7 +18,7 @@ joyce demo [-o FILE]            a ledger page on a board's screen; picture in FI
 joyce render RAM [--f5 HEX] [--f6 HEX] [--f7 HEX] [--rate 50|60] [-o FILE]
                                 the screen of a RAM file (5B, 00, 40, 50, screen.pbm)
 joyce reach                     the reach list: groups of 9 bytes from stdin, text to stdout
-joyce diff A B                  the first place where two pictures differ; exit status 1 if they do
+joyce diff A B                  where two pictures differ first; exit status 1 if they do
 joyce fuzz [--calls N] [--seed S] [--episode E] [--fault F]
                                 the library against the model (2000000 calls, seed 1);
                                 --fault only with the stand-in
@@ -39,7 +39,7 @@ fn main() -> ExitCode {
     }
 }
 
-/// The words behind the tool's name. A file name that is no text cannot be named in a message, so it is not taken.
+/// The words behind the tool's name. A file name that is no text cannot be named in a message, so it is refused.
 fn arguments() -> Result<Vec<String>, String> {
     let words = std::env::args_os().skip(1).map(|word| word.into_string());
     words.collect::<Result<_, _>>().map_err(|word| format!("{word:?} is not UTF-8"))
@@ -68,7 +68,7 @@ fn reach(rest: &[String]) -> Result<(), String> {
     Args::parse(rest, &[])?.expect_words(0, "groups on standard input")?;
     let mut input = Vec::new();
     io::stdin().read_to_end(&mut input).map_err(|error| format!("standard input: {error}"))?;
-    out::write(&reach_list(&input, |ask| Reach::from(Library.reach(ask))))
+    out::write(&reach_list(&input, |access| Reach::from(Library.reach(access))))
 }
 
 fn run_fuzz(rest: &[String]) -> Result<bool, String> {
@@ -102,10 +102,10 @@ fn report(passed: &fuzz::Passed, seed: u64, seconds: f64) -> Result<(), String> 
         "no difference: {calls} calls in lists (seed {seed}), {sweep_calls} in the sweep, {seconds:.1} s"
     ))?;
     out::line(&format!(
-        "accepted {}, refused with 1 to 6: {:?}; {} stores noted lines, {} refreshes drew, {} NMIs",
+        "accepted {}, refused with 1 to 6: {:?}; {} stores made lines dirty, {} refreshes drew, {} NMIs",
         tally.refusals[0],
         &tally.refusals[1..7],
-        tally.noting,
+        tally.marking,
         tally.drawing,
         tally.nmi
     ))

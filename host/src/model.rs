@@ -7,15 +7,15 @@ mod step;
 #[cfg(test)]
 mod tests;
 
-pub use memory::{reach, reach_list, Ask};
+pub use memory::{reach, reach_list, Access};
 pub use picture::{draw, refresh};
-pub use pure::{first_difference, make_pointer, next_noted, read_pointer, roll, widen};
+pub use pure::{first_difference, make_pointer, next_dirty, read_pointer, roll, widen};
 pub use step::{step, step_numbers, Step};
 
 pub(crate) use memory::blocks;
+pub(crate) use picture::table_index;
 #[cfg(feature = "standin")]
-pub(crate) use picture::lines_using;
-pub(crate) use picture::table_place;
+pub(crate) use picture::touched_lines;
 
 use crate::record::{Board, Boot, Clock, Disc, Paging, Sizes, Video, ROUTE_NONE};
 use crate::reply::Answer;
@@ -24,10 +24,10 @@ pub const BAD_RECORD: u8 = 1;
 pub const BAD_LENGTH: u8 = 2;
 pub const BAD_NUMBER: u8 = 3;
 pub const STREAM_ENDED: u8 = 4;
-pub const NO_CHANNEL: u8 = 5;
+pub const NO_PORT: u8 = 5;
 pub const BAD_SIZES: u8 = 6;
 
-/// What the host says at power-on.
+/// What the host gives at power-on.
 #[derive(Clone, Copy, PartialEq, Eq, Debug, Default)]
 pub struct PowerOn {
     pub sizes: Sizes,

@@ -1,17 +1,18 @@
 //! The model behind the C interface, to be timed beside the library, and for `standin-c` to export.
 
 use crate::interface::Interface;
-use crate::machine::{Machine, Model, Numbers};
-use crate::model::{Ask, PowerOn};
+use crate::machine::{Machine, Model, StepNumbers};
+use crate::model::{Access, PowerOn};
 use crate::record::{Board, Paging, Sizes};
 
 /// The model's functions, called as the library's are.
-pub const MODEL: Interface = Interface {
+pub const C_MODEL: Interface = Interface {
+    version: joyce_version,
     power_on: joyce_power_on,
     step: joyce_step,
     draw: joyce_draw,
     refresh: joyce_refresh,
-    next_noted: joyce_next_noted,
+    next_dirty: joyce_next_dirty,
     first_difference: joyce_first_difference,
     widen: joyce_widen,
     make_pointer: joyce_make_pointer,
@@ -38,6 +39,13 @@ unsafe fn lent_mut<'a>(at: *mut u8, len: usize) -> &'a mut [u8] {
 }
 
 #[cfg_attr(feature = "standin", no_mangle)]
+pub extern "C" fn joyce_version() -> u32 {
+    Model.version()
+}
+
+/// # Safety
+/// What is lent must be as include/joyce.h asks.
+#[cfg_attr(feature = "standin", no_mangle)]
 pub unsafe extern "C" fn joyce_power_on(
     board: *mut Board,
     internal: u8,
@@ -56,6 +64,8 @@ pub unsafe extern "C" fn joyce_power_on(
     Model.power_on(&mut *board, &on).0
 }
 
+/// # Safety
+/// What is lent must be as include/joyce.h asks.
 #[cfg_attr(feature = "standin", no_mangle)]
 pub unsafe extern "C" fn joyce_step(
     board: *mut Board,
@@ -67,9 +77,11 @@ pub unsafe extern "C" fn joyce_step(
     boot: *const u8,
     boot_len: usize,
 ) -> u64 {
-    Model.step(&mut *board, Numbers::new(kind, number, value), lent_mut(ram, ram_len), lent(boot, boot_len)).0
+    Model.step(&mut *board, StepNumbers::new(kind, number, value), lent_mut(ram, ram_len), lent(boot, boot_len)).0
 }
 
+/// # Safety
+/// What is lent must be as include/joyce.h asks.
 #[cfg_attr(feature = "standin", no_mangle)]
 pub unsafe extern "C" fn joyce_draw(
     board: *const Board,
@@ -81,6 +93,8 @@ pub unsafe extern "C" fn joyce_draw(
     Model.draw(&*board, lent(ram, ram_len), lent_mut(picture, picture_len)).0
 }
 
+/// # Safety
+/// What is lent must be as include/joyce.h asks.
 #[cfg_attr(feature = "standin", no_mangle)]
 pub unsafe extern "C" fn joyce_refresh(
     board: *mut Board,
@@ -92,16 +106,22 @@ pub unsafe extern "C" fn joyce_refresh(
     Model.refresh(&mut *board, lent(ram, ram_len), lent_mut(picture, picture_len)).0
 }
 
+/// # Safety
+/// What is lent must be as include/joyce.h asks.
 #[cfg_attr(feature = "standin", no_mangle)]
-pub unsafe extern "C" fn joyce_next_noted(board: *const Board, n: u32) -> u64 {
-    Model.next_noted(&*board, n).0
+pub unsafe extern "C" fn joyce_next_dirty(board: *const Board, n: u32) -> u64 {
+    Model.next_dirty(&*board, n).0
 }
 
+/// # Safety
+/// What is lent must be as include/joyce.h asks.
 #[cfg_attr(feature = "standin", no_mangle)]
 pub unsafe extern "C" fn joyce_first_difference(a: *const u8, a_len: usize, b: *const u8, b_len: usize) -> u64 {
     Model.first_difference(lent(a, a_len), lent(b, b_len)).0
 }
 
+/// # Safety
+/// What is lent must be as include/joyce.h asks.
 #[cfg_attr(feature = "standin", no_mangle)]
 pub unsafe extern "C" fn joyce_widen(line: *const u8, line_len: usize, out: *mut u8, out_len: usize) -> u8 {
     Model.widen(lent(line, line_len), lent_mut(out, out_len))
@@ -125,5 +145,5 @@ pub extern "C" fn joyce_roll(old_top: u8, new_top: u8) -> i8 {
 #[cfg_attr(feature = "standin", no_mangle)]
 pub extern "C" fn joyce_reach(internal: u8, total: u8, f0: u8, f1: u8, f2: u8, f3: u8, lock: u8, address: u16) -> u64 {
     let paging = Paging { maps: [f0, f1, f2, f3], lock };
-    Model.reach(&Ask { sizes: Sizes { internal, total }, paging, address }).0
+    Model.reach(&Access { sizes: Sizes { internal, total }, paging, address }).0
 }

@@ -1,4 +1,7 @@
-//! The record of a board, laid out as the C interface has it.
+//! The record of a board (document 01: the record), laid out as the C interface has it.
+
+/// The version of the C interface that this layout and `reply` are of: JOYCE_VERSION of the header.
+pub const VERSION: u32 = 1;
 
 /// Bytes in a block of memory.
 pub const BLOCK: usize = 16_384;
@@ -8,8 +11,8 @@ pub const LINE_BYTES: usize = 90;
 pub const LINES: usize = 256;
 /// Bytes in a picture.
 pub const PICTURE: usize = LINES * LINE_BYTES;
-/// The longest boot stream that may be lent.
-pub const STREAM: usize = 1_024;
+/// Bytes in the longest boot stream that may be lent.
+pub const BOOT_MAX: usize = 1_024;
 
 pub const ROUTE_NONE: u8 = 0;
 pub const ROUTE_NMI: u8 = 1;
@@ -50,6 +53,7 @@ pub struct Clock {
     pub beam: u16,
 }
 
+/// Boot mode, and the index of the next byte of the boot stream.
 #[repr(C)]
 #[derive(Clone, Copy, PartialEq, Eq, Debug, Default)]
 pub struct Boot {
@@ -66,7 +70,7 @@ pub struct Disc {
     pub motor: u8,
 }
 
-/// One note for each line: line L is bit L % 64 of word L / 64.
+/// A set of lines: line L is bit L % 64 of word L / 64.
 #[repr(C)]
 #[derive(Clone, Copy, PartialEq, Eq, Debug, Default)]
 pub struct Lines {
@@ -86,6 +90,7 @@ pub struct Board {
     pub external: u8,
     pub driven: u8,
     pub bleeper: u8,
+    /// The lines that a refresh redraws (document 01: noted).
     pub dirty: Lines,
 }
 
@@ -198,7 +203,7 @@ impl Board {
         }
     }
 
-    /// Each field in range, no note on an unshown line, and never route NMI with the disc line on.
+    /// Each field in range, no unshown line dirty, and never route NMI with the disc line on.
     pub fn good(&self) -> bool {
         let flags = self.boot.mode
             | self.disc.line
@@ -212,14 +217,14 @@ impl Board {
             && flags <= 1
             && self.clock.counter <= 15
             && self.clock.beam < self.frame()
-            && self.boot.at as usize <= STREAM
+            && self.boot.at as usize <= BOOT_MAX
             && self.disc.route <= ROUTE_INT
             && !(self.disc.route == ROUTE_NMI && self.disc.line == 1)
-            && !self.notes_unshown()
+            && !self.unshown_dirty()
     }
 
-    /// Whether a line from 200 on is noted on 60 Hz.
-    fn notes_unshown(&self) -> bool {
+    /// Whether a line from 200 on is dirty on 60 Hz.
+    fn unshown_dirty(&self) -> bool {
         !self.is_50_hz() && self.dirty.words[3] >> 8 != 0
     }
 
@@ -238,7 +243,7 @@ mod tests {
     fn fields_stand_as_in_the_header() {
         let b = Board::default();
         let start = &b as *const Board as usize;
-        let places = [
+        let offsets = [
             &b.sizes as *const _ as usize,
             &b.rate as *const _ as usize,
             &b.paging as *const _ as usize,
@@ -251,7 +256,7 @@ mod tests {
             &b.bleeper as *const _ as usize,
             &b.dirty as *const _ as usize,
         ];
-        assert_eq!(places.map(|place| place - start), [0, 2, 3, 8, 12, 16, 20, 24, 25, 26, 32]);
+        assert_eq!(offsets.map(|at| at - start), [0, 2, 3, 8, 12, 16, 20, 24, 25, 26, 32]);
         let inner = [
             &b.sizes.total as *const _ as usize,
             &b.paging.lock as *const _ as usize,
@@ -263,6 +268,6 @@ mod tests {
             &b.disc.terminal_count as *const _ as usize,
             &b.disc.motor as *const _ as usize,
         ];
-        assert_eq!(inner.map(|place| place - start), [1, 7, 9, 10, 14, 18, 21, 22, 23]);
+        assert_eq!(inner.map(|at| at - start), [1, 7, 9, 10, 14, 18, 21, 22, 23]);
     }
 }

@@ -7,7 +7,7 @@ pub struct Reply(pub u64);
 const INT: u32 = 16;
 const NMI: u32 = 17;
 const FORWARDED: u32 = 18;
-const FLOATS: u32 = 19;
+const FLOATING: u32 = 19;
 const FOUND: u32 = 20;
 
 impl Reply {
@@ -27,12 +27,13 @@ impl Reply {
         self.bit(NMI)
     }
 
+    /// Whether the access is forwarded to the host (document 01: passed on).
     pub fn forwarded(self) -> bool {
         self.bit(FORWARDED)
     }
 
-    pub fn floats(self) -> bool {
-        self.bit(FLOATS)
+    pub fn floating(self) -> bool {
+        self.bit(FLOATING)
     }
 
     pub fn found(self) -> bool {
@@ -69,7 +70,7 @@ impl Reply {
 impl std::fmt::Debug for Reply {
     fn fmt(&self, f: &mut std::fmt::Formatter<'_>) -> std::fmt::Result {
         write!(f, "{:016X} (value {:04X}", self.0, self.value())?;
-        let names = [(INT, "INT"), (NMI, "NMI"), (FORWARDED, "passed on"), (FLOATS, "floats"), (FOUND, "found")];
+        let names = [(INT, "INT"), (NMI, "NMI"), (FORWARDED, "forwarded"), (FLOATING, "floating"), (FOUND, "found")];
         for (_, name) in names.iter().filter(|(at, _)| self.bit(*at)) {
             write!(f, ", {name}")?;
         }
@@ -112,43 +113,43 @@ impl From<Reply> for Answer {
 #[derive(Clone, Copy, PartialEq, Eq, Debug, Default)]
 pub struct Drawn {
     pub count: u16,
-    pub floats: bool,
+    pub floating: bool,
     pub refusal: u8,
 }
 
 impl From<Drawn> for Reply {
     fn from(d: Drawn) -> Reply {
-        Reply(d.count as u64 | Reply::flag(d.floats, FLOATS) | Reply::refused(d.refusal))
+        Reply(d.count as u64 | Reply::flag(d.floating, FLOATING) | Reply::refused(d.refusal))
     }
 }
 
 impl From<Reply> for Drawn {
     fn from(r: Reply) -> Drawn {
-        Drawn { count: r.value(), floats: r.floats(), refusal: r.refusal() }
+        Drawn { count: r.value(), floating: r.floating(), refusal: r.refusal() }
     }
 }
 
-/// A noted line, or none.
+/// The next dirty line, or none.
 #[derive(Clone, Copy, PartialEq, Eq, Debug, Default)]
-pub struct Noted {
+pub struct NextLine {
     pub line: Option<u8>,
     pub refusal: u8,
 }
 
-impl From<Noted> for Reply {
-    fn from(n: Noted) -> Reply {
+impl From<NextLine> for Reply {
+    fn from(n: NextLine) -> Reply {
         let line = n.line.unwrap_or(0) as u64;
         Reply(line | Reply::flag(n.line.is_some(), FOUND) | Reply::refused(n.refusal))
     }
 }
 
-impl From<Reply> for Noted {
-    fn from(r: Reply) -> Noted {
-        Noted { line: r.found().then_some(r.value() as u8), refusal: r.refusal() }
+impl From<Reply> for NextLine {
+    fn from(r: Reply) -> NextLine {
+        NextLine { line: r.found().then_some(r.value() as u8), refusal: r.refusal() }
     }
 }
 
-/// The first place where two pictures differ, line then pixel, or none.
+/// The first position where two pictures differ, line then pixel, or none.
 #[derive(Clone, Copy, PartialEq, Eq, Debug, Default)]
 pub struct Difference {
     pub at: Option<(u8, u16)>,
@@ -170,20 +171,20 @@ impl From<Reply> for Difference {
 
 /// A pointer word made from block and start.
 #[derive(Clone, Copy, PartialEq, Eq, Debug, Default)]
-pub struct Made {
+pub struct MadePointer {
     pub word: u16,
     pub refusal: u8,
 }
 
-impl From<Made> for Reply {
-    fn from(m: Made) -> Reply {
+impl From<MadePointer> for Reply {
+    fn from(m: MadePointer) -> Reply {
         Reply(m.word as u64 | Reply::refused(m.refusal))
     }
 }
 
-impl From<Reply> for Made {
-    fn from(r: Reply) -> Made {
-        Made { word: r.value(), refusal: r.refusal() }
+impl From<Reply> for MadePointer {
+    fn from(r: Reply) -> MadePointer {
+        MadePointer { word: r.value(), refusal: r.refusal() }
     }
 }
 

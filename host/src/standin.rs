@@ -1,8 +1,8 @@
 //! Stands in for the linked library while there is none: the model, sound or with one fault put in
 //! on purpose, to see that the differential test finds it.
 
-use crate::machine::{Machine, Model, Numbers};
-use crate::model::{self, Ask, PowerOn};
+use crate::machine::{Machine, Model, StepNumbers};
+use crate::model::{self, Access, PowerOn};
 use crate::record::{Board, Lines, BLOCK, ENABLE, LINE_BYTES, PICTURE, REVERSE, ROUTE_NMI};
 use crate::reply::{Answer, Drawn, Pointer, Reply};
 
@@ -11,19 +11,19 @@ pub const FAULTS: [&str; 16] = [
     "reading F8 clears the counter",
     "lock bits in bank order",
     "pixel bytes follow each other with no gap of eight",
-    "a store through a split map marks lines of the read block",
+    "a store through a split map makes lines of the read block dirty",
     "reverse is ignored while the screen is off",
-    "keyboard words note no line",
+    "keyboard words make no line dirty",
     "the tick comes at another beam",
     "NMI is shown twice",
     "a made-up redraw count",
     "refresh leaves a line",
     "refusal 3 is checked before 2",
     "an unshown line is drawn",
-    "a store of an equal byte notes lines",
-    "a store into the table notes no line",
-    "a pixel byte past the end of the block is not noted",
-    "reset keeps the stream place",
+    "a store of an equal byte makes lines dirty",
+    "a store into the table makes no line dirty",
+    "a pixel byte past the end of the block makes no line dirty",
+    "reset keeps boot.at",
 ];
 
 /// The stand-in; fault 0 is none.
@@ -34,18 +34,22 @@ pub struct Faulty(pub u8);
 pub const Library: Faulty = Faulty(0);
 
 impl Machine for Faulty {
+    fn version(&self) -> u32 {
+        Model.version()
+    }
+
     fn power_on(&self, board: &mut Board, on: &PowerOn) -> Reply {
         Model.power_on(board, on)
     }
 
-    fn step(&self, board: &mut Board, step: Numbers, ram: &mut [u8], stream: &[u8]) -> Reply {
+    fn step(&self, board: &mut Board, step: StepNumbers, ram: &mut [u8], boot: &[u8]) -> Reply {
         match self.0 {
-            2 => bank_order_locks(board, step, ram, stream),
+            2 => bank_order_locks(board, step, ram, boot),
             11 if board.good() && model::Step::from_numbers(step.kind, step.number, step.value).is_none() => {
                 Answer { int: board.int(), refusal: 3, ..Answer::default() }.into()
             }
-            1 | 4 | 6 | 7 | 8 | 13 | 14 | 15 | 16 => self.altered_step(board, step, ram, stream),
-            _ => Model.step(board, step, ram, stream),
+            1 | 4 | 6 | 7 | 8 | 13 | 14 | 15 | 16 => self.altered_step(board, step, ram, boot),
+            _ => Model.step(board, step, ram, boot),
         }
     }
 
@@ -58,14 +62,14 @@ impl Machine for Faulty {
     }
 
     fn refresh(&self, board: &mut Board, ram: &[u8], picture: &mut [u8]) -> Reply {
-        let noted = board.dirty;
-        let last = if self.0 == 10 { (0..=255).rev().find(|&line| noted.has(line)) } else { None };
+        let dirty = board.dirty;
+        let last = if self.0 == 10 { (0..=255).rev().find(|&line| dirty.has(line)) } else { None };
         let kept = if self.0 == 10 { picture.to_vec() } else { Vec::new() };
         let reply = Model.refresh(board, ram, picture);
         if reply.refusal() != 0 {
             return reply;
         }
-        self.spoil(board, &noted, ram, picture);
+        self.spoil(board, &dirty, ram, picture);
         match (self.0, last) {
             (9, _) => Drawn { count: reply.value().min(255), ..reply.into() }.into(),
             (10, Some(line)) => {
@@ -77,8 +81,8 @@ impl Machine for Faulty {
         }
     }
 
-    fn next_noted(&self, board: &Board, n: u32) -> Reply {
-        Model.next_noted(board, n)
+    fn next_dirty(&self, board: &Board, n: u32) -> Reply {
+        Model.next_dirty(board, n)
     }
 
     fn first_difference(&self, a: &[u8], b: &[u8]) -> Reply {
@@ -101,17 +105,17 @@ impl Machine for Faulty {
         Model.roll(old, new)
     }
 
-    fn reach(&self, ask: &Ask) -> Reply {
-        Model.reach(ask)
+    fn reach(&self, access: &Access) -> Reply {
+        Model.reach(access)
     }
 }
 
 impl Faulty {
     /// Makes the step soundly, then alters what the fault alters.
-    fn altered_step(&self, board: &mut Board, step: Numbers, ram: &mut [u8], stream: &[u8]) -> Reply {
+    fn altered_step(&self, board: &mut Board, step: StepNumbers, ram: &mut [u8], boot: &[u8]) -> Reply {
         let before = *board;
-        let missed = self.missed_notes(&before, step, ram);
-        let reply = Model.step(board, step, ram, stream);
+        let dirty = self.dirty_under_fault(&before, step, ram);
+        let reply = Model.step(board, step, ram, boot);
         if reply.refusal() != 0 {
             return reply;
         }
@@ -120,7 +124,7 @@ impl Faulty {
             (4, 3) => {
                 let (read, write) = model::blocks(board.sizes, &board.paging, step.number as usize >> 14);
                 if read != write && before.dirty != board.dirty {
-                    let lines = model::lines_using(&before, ram, read, step.number as u16 & 0x3FFF);
+                    let lines = model::touched_lines(&before, ram, read, step.number as u16 & 0x3FFF);
                     board.dirty = before.dirty.or(&lines);
                 }
             }
@@ -130,15 +134,15 @@ impl Faulty {
                 board.clock.counter = (before.clock.counter + tick as u8).min(15);
             }
             (8, _) if reply.nmi() => board.disc.route = ROUTE_NMI,
-            (13, 3) | (13, 7) | (14, 3) | (14, 7) | (15, 3) | (15, 7) => board.dirty = missed,
+            (13, 3) | (13, 7) | (14, 3) | (14, 7) | (15, 3) | (15, 7) => board.dirty = dirty,
             (16, 5) if step.number == 0xF8 && step.value & 15 == 1 => board.boot.at = before.boot.at,
             _ => {}
         }
         Answer { int: board.int(), ..reply.into() }.into()
     }
 
-    /// The notes after a store under the faults that alter them.
-    fn missed_notes(&self, before: &Board, step: Numbers, ram: &[u8]) -> Lines {
+    /// The dirty lines after a store, under the faults that alter them.
+    fn dirty_under_fault(&self, before: &Board, step: StepNumbers, ram: &[u8]) -> Lines {
         if !before.good() || ram.len() != before.sizes.ram_bytes() {
             return before.dirty;
         }
@@ -150,11 +154,11 @@ impl Faulty {
             _ => (3, 0x3FF0 + (step.number as u16 & 15)),
         };
         let at = block as usize * BLOCK + place as usize;
-        let touched = model::lines_using(before, ram, block, place);
+        let touched = model::touched_lines(before, ram, block, place);
         let added = match self.0 {
             13 => touched,
             _ if ram[at] as u32 == step.value => Lines::default(),
-            14 if at.wrapping_sub(model::table_place(&before.video)) < 512 => Lines::default(),
+            14 if at.wrapping_sub(model::table_index(&before.video)) < 512 => Lines::default(),
             15 => touched.and(&unwrapped(before, ram, place)),
             _ => touched,
         };
@@ -190,19 +194,19 @@ fn unwrapped(board: &Board, ram: &[u8], place: u16) -> Lines {
 }
 
 fn pointer(board: &Board, ram: &[u8], line: u8) -> Pointer {
-    let entry = model::table_place(&board.video) + 2 * board.video.top.wrapping_add(line) as usize;
+    let entry = model::table_index(&board.video) + 2 * board.video.top.wrapping_add(line) as usize;
     model::read_pointer(u16::from_le_bytes([ram[entry], ram[entry + 1]]))
 }
 
-fn bank_order_locks(board: &mut Board, step: Numbers, ram: &mut [u8], stream: &[u8]) -> Reply {
+fn bank_order_locks(board: &mut Board, step: StepNumbers, ram: &mut [u8], boot: &[u8]) -> Reply {
     let lock = board.paging.lock;
     // Bank order would be D7 for C000h down to D4 for 0000h.
     let moved = lock & 0x8F | (lock & 0x40) >> 1 | (lock & 0x20) >> 1 | (lock & 0x10) << 2;
     if !matches!(step.kind, 1 | 2) {
-        return Model.step(board, step, ram, stream);
+        return Model.step(board, step, ram, boot);
     }
     board.paging.lock = moved;
-    let reply = Model.step(board, step, ram, stream);
+    let reply = Model.step(board, step, ram, boot);
     board.paging.lock = lock;
     reply
 }

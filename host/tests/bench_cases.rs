@@ -1,9 +1,9 @@
-//! The bench cases, run on the library and on the model through the same face.
+//! The bench cases, run on the library and on the model through the same trait.
 
-use joyce::machine::{Machine, Model, Numbers};
-use joyce::model::{Ask, PowerOn};
+use joyce::machine::{Machine, Model, StepNumbers};
+use joyce::model::{Access, PowerOn};
 use joyce::record::{Board, Lines, Paging, Sizes, BLOCK, PICTURE};
-use joyce::reply::{Difference, Made, Noted, Pointer, Reach};
+use joyce::reply::{Difference, MadePointer, NextLine, Pointer, Reach};
 use joyce::Library;
 
 fn both(case: impl Fn(&dyn Machine)) {
@@ -12,19 +12,19 @@ fn both(case: impl Fn(&dyn Machine)) {
 }
 
 fn blocks(machine: &dyn Machine, internal: u8, total: u8, maps: [u8; 4], lock: u8, address: u16) -> (u8, u8, u16) {
-    let ask = Ask { sizes: Sizes { internal, total }, paging: Paging { maps, lock }, address };
-    let reach = Reach::from(machine.reach(&ask));
+    let access = Access { sizes: Sizes { internal, total }, paging: Paging { maps, lock }, address };
+    let reach = Reach::from(machine.reach(&access));
     assert_eq!(reach.refusal, 0);
     (reach.read, reach.write, reach.place)
 }
 
-/// A board of 8 blocks out of boot mode, nothing noted, and its RAM.
+/// A board of 8 blocks out of boot mode, no line dirty, and its RAM.
 fn board(machine: &dyn Machine, rate: u8, table: u8, top: u8) -> (Board, Vec<u8>) {
     let maps = [0x80, 0x81, 0x84, 0x87];
     let on = PowerOn { sizes: Sizes { internal: 8, total: 8 }, rate, maps, lock: 0, table, top };
     let (mut board, mut ram) = (Board::default(), vec![0; 8 * BLOCK]);
     assert_eq!(machine.power_on(&mut board, &on).0, 0);
-    assert_eq!(machine.step(&mut board, Numbers::channel_out(0xF8, 0), &mut ram, &[]).0, 0);
+    assert_eq!(machine.step(&mut board, StepNumbers::port_out(0xF8, 0), &mut ram, &[]).0, 0);
     board.dirty = Lines::default();
     (board, ram)
 }
@@ -49,13 +49,13 @@ fn p6_to_p8_pointers() {
         let read = |word| Pointer::from(machine.read_pointer(word));
         assert_eq!(read(u16::from_le_bytes([0x98, 0x2C])), Pointer { block: 1, start: 0x1930 });
         assert_eq!(read(0xFFFF), Pointer { block: 7, start: 0x3FF7 });
-        assert_eq!(Made::from(machine.make_pointer(7, 0x3FF7)), Made { word: 0xFFFF, refusal: 0 });
+        assert_eq!(MadePointer::from(machine.make_pointer(7, 0x3FF7)), MadePointer { word: 0xFFFF, refusal: 0 });
         let (mut board, mut ram) = board(machine, 50, 0, 0);
         ram[..2].copy_from_slice(&0x3EE0u16.to_le_bytes());
         ram[BLOCK + 0x3FF8] = 71;
         ram[BLOCK] = 72;
         let mut picture = vec![0; PICTURE];
-        machine.step(&mut board, Numbers::channel_out(0xF7, 0x40), &mut ram, &[]);
+        machine.step(&mut board, StepNumbers::port_out(0xF7, 0x40), &mut ram, &[]);
         assert_eq!(machine.draw(&board, &ram, &mut picture).0, 0);
         assert_eq!(picture[71..73], [71, 72]);
     });
@@ -66,8 +66,8 @@ fn p9_and_p10_the_table() {
     both(|machine| {
         let (mut board, mut ram) = board(machine, 50, 0x99, 0xFF);
         // Block 4 is at 8000h; its place 3200h is entry 0, which line 1 uses.
-        machine.step(&mut board, Numbers::write(0x8000 + 0x3200, 1), &mut ram, &[]);
-        assert_eq!(Noted::from(machine.next_noted(&board, 0)), Noted { line: Some(1), refusal: 0 });
+        machine.step(&mut board, StepNumbers::write(0x8000 + 0x3200, 1), &mut ram, &[]);
+        assert_eq!(NextLine::from(machine.next_dirty(&board, 0)), NextLine { line: Some(1), refusal: 0 });
         assert_eq!(board.dirty, Lines::single(1));
     });
 }
@@ -77,8 +77,8 @@ fn p11_the_counter() {
     both(|machine| {
         let (mut board, mut ram) = board(machine, 50, 0, 0);
         board.clock.counter = 3;
-        let seen = [0xF8, 0xF4, 0xF4]
-            .map(|channel| machine.step(&mut board, Numbers::channel_in(channel), &mut ram, &[]).value());
+        let seen =
+            [0xF8, 0xF4, 0xF4].map(|port| machine.step(&mut board, StepNumbers::port_in(port), &mut ram, &[]).value());
         assert_eq!(seen, [0x53, 0x53, 0x50]);
     });
 }
@@ -90,7 +90,7 @@ fn p12_drawn_and_widened() {
         ram[0] = 0xA5;
         let mut picture = vec![0; PICTURE];
         for (control, byte) in [(0x40, 0xA5), (0xC0, 0x5A), (0x00, 0x00), (0x80, 0xFF)] {
-            machine.step(&mut board, Numbers::channel_out(0xF7, control), &mut ram, &[]);
+            machine.step(&mut board, StepNumbers::port_out(0xF7, control), &mut ram, &[]);
             machine.refresh(&mut board, &ram, &mut picture);
             assert_eq!(picture[0], byte);
         }
@@ -108,7 +108,7 @@ fn p13_the_beam() {
             let beams = [1, 2, last].map(|beam| {
                 board.clock.beam = beam;
                 board.clock.counter = 0;
-                machine.step(&mut board, Numbers::scan(), &mut ram, &[]);
+                machine.step(&mut board, StepNumbers::scan(), &mut ram, &[]);
                 (board.clock.beam, board.clock.counter)
             });
             assert_eq!(beams, [(2, 1), (3, 0), (0, 0)]);

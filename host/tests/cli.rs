@@ -36,7 +36,7 @@ fn reach(input: &[u8]) -> String {
         .stdout(Stdio::piped())
         .spawn()
         .expect("the tool runs");
-    child.stdin.take().expect("a pipe").write_all(input).expect("input taken");
+    child.stdin.take().expect("a pipe").write_all(input).expect("input is read");
     let output = child.wait_with_output().expect("the tool ends");
     assert!(output.status.success());
     said(&output)
@@ -95,7 +95,7 @@ fn render_draws_the_ram() {
 }
 
 #[test]
-fn diff_finds_the_place() {
+fn diff_finds_the_position() {
     let folder = folder("diff");
     let mut picture = vec![0u8; PICTURE];
     fs::write(folder.join("a"), &picture).expect("a");

@@ -1,7 +1,7 @@
 //! The bytes between a record's fields carry nothing: no reply and no field depends on them.
 
 use joyce::fuzz::Rng;
-use joyce::machine::{Machine, Numbers};
+use joyce::machine::{Machine, StepNumbers};
 use joyce::model::PowerOn;
 use joyce::record::{Board, Sizes, BLOCK, PICTURE};
 use joyce::reply::Reply;
@@ -27,12 +27,12 @@ impl Raw {
 }
 
 /// Every function that is lent a record, and the record after each.
-fn replies(raw: Raw, step: Numbers) -> (Vec<Reply>, Vec<Board>) {
+fn replies(raw: Raw, step: StepNumbers) -> (Vec<Reply>, Vec<Board>) {
     let mut raw = raw;
     let board = raw.board();
     let (mut ram, mut picture) = (vec![0x5A; 8 * BLOCK], vec![0; PICTURE]);
     let (mut replies, mut boards) = (Vec::new(), Vec::new());
-    replies.push(Library.next_noted(board, 0));
+    replies.push(Library.next_dirty(board, 0));
     replies.push(Library.step(board, step, &mut ram, &[1, 2, 3]));
     boards.push(*board);
     replies.push(Library.draw(board, &ram, &mut picture));
@@ -69,7 +69,7 @@ fn padding_carries_nothing() {
             3 | 5 => (rng.byte() as u32, rng.byte() as u32),
             _ => (rng.byte() as u32, 0),
         };
-        let step = Numbers::new(kind, number, value);
+        let step = StepNumbers::new(kind, number, value);
         let (zeros, ones) = (replies(raw.padded(0x00), step), replies(raw.padded(0xFF), step));
         accepted += (zeros.0[1].refusal() == 0) as u32;
         assert!(zeros == ones, "turn {turn}: {step:?} on {:?}", raw.board());

@@ -1,3 +1,4 @@
-pub mod Ports
+pub mod Dirty
 pub mod Good
-pub mod Marking
+pub mod Refusals
+pub mod Registers

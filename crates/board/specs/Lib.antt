@@ -1,3 +1,5 @@
-pub mod Marks
+pub mod Clock
+pub mod Dirty
+pub mod Ranges
 pub mod Record
 pub mod Registers

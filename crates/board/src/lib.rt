@@ -1,10 +1,12 @@
-// The board: its record, and what a scan, a channel and a store do to the record, by value.
+// The board: its record, whether that is good, and what a scan, a port and a store do to it, by value.
+mod clock;
+mod copies;
+mod methods;
+mod ranges;
 mod record;
-mod registers;
+mod stores;
 
-pub use parts::Boot;
-pub use parts::Clock;
-pub use parts::Disc;
-pub use parts::Video;
-pub use parts::frame_scans;
 pub use record::Board;
+pub use record::Boot;
+pub use record::Clock;
+pub use record::Disc;

@@ -1,5 +1,5 @@
-pub mod Any
-pub mod Laws
 pub mod Operations
+pub mod Packed
 pub mod Search
 pub mod Sets
+pub mod Shown

@@ -13,10 +13,12 @@ use lib.Count.{ones, trailingZeros}
 use lib.ListN.{getD}
 use mir.Val.{boolByte}
 use Rattle.lineset.specs.declared.LineSet.{LineSet}
-use Rattle.lineset.specs.declared.Line.the-variants.{At, Nothing}
-use Rattle.lineset.specs.Lines.{packed, setOf, member, countOf, firstOf, every, inside}
-use Rattle.lineset.proofs.Laws.{packed-shift, or-packed, and-packed, ones-packed, count-add}
-use Rattle.lineset.proofs.Search.{first-none, first-some, every-all, every-agree, every-add}
+use Rattle.lineset.specs.declared.NextLine.the-variants.{At, Nothing}
+use Rattle.lineset.specs.Lines.{packed, setOf, member, countOf, firstOf, inside}
+use Rattle.lineset.proofs.Packed.{packed-shift, or-packed, and-packed, ones-packed, count-add}
+use Rattle.facts.specs.Tests.{every}
+use Rattle.facts.proofs.Tests.{every-all, every-agree, every-add}
+use Rattle.lineset.proofs.Search.{first-none, first-some}
 use Rattle.lineset.proofs.Sets.{Words, word-members, member-set}
 
 -- four words, each packed from a test

@@ -1,15 +1,17 @@
--- Laws of searches: the first number that a test holds of, and tests of all numbers of a range.
+-- Laws of a search: the first number that a test holds of.
 -- Assumes nothing.
 use Prim.Native.Nat.{ℕ, zero, suc, _+_, _/_, _%_, _≤_, _<_}
 use native.Mathlib.Nat.{add-suc, suc-add, add-zero, zero-add, le-of-suc-le-suc, not-suc-le-zero}
 use native.Mathlib.Omega.{arith}
 use mathlib.Core.Path.{_≡_, refl, sym, _∙_, ap, ap₂}
-use mathlib.Core.Bool.{Bool, true, false, _&&_, true≢false, and-assoc}
+use mathlib.Core.Bool.{Bool, true, false, cond}
+use borrow.Author.Tests.{eqb-true, eqb-false}
+use lib.Dec.{eqb}
 use lib.Count.{trailingZeros, under}
 use mir.Val.{boolByte}
-use Rattle.lineset.specs.declared.Line.the-variants.{At}
-use Rattle.lineset.specs.Lines.{packed, firstOf, every}
-use Rattle.lineset.proofs.Laws.{packed-low, packed-half}
+use Rattle.lineset.specs.declared.NextLine.the-variants.{At, Nothing}
+use Rattle.lineset.specs.Lines.{packed, firstOf}
+use Rattle.lineset.proofs.Packed.{packed-low, packed-half}
 
 digit-zero : (b : Bool) → boolByte b ≡ 0 → b ≡ false
 digit-zero true e = absurd (omega arith)
@@ -46,37 +48,47 @@ first-some p from (suc n) m (suc width) ne l =
         (ih (λ z. ne (unfold packed in rw (z, e))) (le-of-suc-le-suc l)
         ∙ ap At (suc-add from (trailingZeros width (packed p (suc from) n)) ∙ sym (add-suc from (trailingZeros width (packed p (suc from) n)))))
 
-and-true : (a b : Bool) → (a && b) ≡ true → (a ≡ true) × (b ≡ true)
-and-true true b e = (refl, e)
-and-true false b e = absurd (true≢false (sym e))
+-- ---- what the first number tells: the test holds of it, and of none before it
 
--- a test of all numbers of a range: what it tells of each, and that it holds if it holds of each
-pub every-at : (p : ℕ → Bool) (from n : ℕ) → every p from n ≡ true → (i : ℕ) → i < n → p (from + i) ≡ true
-unfolding every
-every-at p from zero h i l = absurd (not-suc-le-zero l)
-every-at p from (suc n) h zero l = rw add-zero (and-true (p from) (every p (suc from) n) h .0)
-every-at p from (suc n) h (suc i) l =
-    rw (add-suc, ← suc-add) (every-at p (suc from) n (and-true (p from) (every p (suc from) n) h .1) i (le-of-suc-le-suc l))
+-- none of the n numbers from `from` on before k
+None : (ℕ → Bool) → ℕ → ℕ → Type 0
+None p from k = (j : ℕ) → from ≤ j → j < k → p j ≡ false
 
-pub every-all : (p : ℕ → Bool) (from n : ℕ) → ((i : ℕ) → i < n → p (from + i) ≡ true) → every p from n ≡ true
-unfolding every
-every-all p from zero h = refl
-every-all p from (suc n) h =
-    rw (rw add-zero at (h zero (omega arith))) (every-all p (suc from) n (λ i l. rw (suc-add, ← add-suc) (h (suc i) (omega arith))))
+none-more : (p : ℕ → Bool) (from k : ℕ) → p from ≡ false → None p (suc from) k → None p from k
+unfolding None
+none-more p from k e h j lo hi = go (eqb j from) refl
+  where
+    go : (b : Bool) → eqb j from ≡ b → p j ≡ false
+    go true q = ap p (eqb-true j from q) ∙ e
+    go false q = let ne : (j ≡ from → ⊥) = eqb-false j from q in h j (omega arith) hi
 
--- two tests that agree on the numbers
-pub every-agree : (p q : ℕ → Bool) (from n : ℕ) → ((i : ℕ) → i < n → p (from + i) ≡ q (from + i)) → every p from n ≡ every q from n
-unfolding every
-every-agree p q from zero h = refl
-every-agree p q from (suc n) h =
-    ap₂ _&&_ (rw add-zero at (h zero (omega arith))) (every-agree p q (suc from) n (λ i l. rw (suc-add, ← add-suc) (h (suc i) (omega arith))))
+-- nothing found: none
+pub found-none : (p : ℕ → Bool) (from n : ℕ) → firstOf p from n ≡ Nothing → (j : ℕ) → from ≤ j → j < from + n → p j ≡ false
+unfolding firstOf None
+found-none p from zero e j lo hi = absurd (omega arith)
+found-none p from (suc n) e j lo hi = go (p from) refl e (found-none p (suc from) n)
+  where
+    go : (b : Bool) → p from ≡ b → cond b (At from) (firstOf p (suc from) n) ≡ Nothing
+        → (firstOf p (suc from) n ≡ Nothing → (i : ℕ) → suc from ≤ i → i < suc from + n → p i ≡ false) → p j ≡ false
+    go true q f ih = let z : _≡_ {A = ℕ} 0 1 = cc in absurd (omega arith)
+    go false q f ih = none-more p from (suc from + n) q (ih f) j lo (omega arith)
 
--- a range in two parts
-pub every-add : (p : ℕ → Bool) (from m n : ℕ) → every p from (m + n) ≡ (every p from m && every p (from + m) n)
-unfolding every
-every-add p from zero n = rw (zero-add, add-zero)
-every-add p from (suc m) n =
-    rw suc-add
-    (ap (λ (b : Bool). p from && b) (every-add p (suc from) m n)
-    ∙ sym (and-assoc (p from) (every p (suc from) m) (every p (suc from + m) n))
-    ∙ ap (λ (k : ℕ). p from && every p (suc from) m && every p k n) (suc-add from m ∙ sym (add-suc from m)))
+-- line k found
+pub record Found (p : ℕ → Bool) (from n k : ℕ) : Type 0 where
+  pub low : from ≤ k
+  pub high : k < from + n
+  pub holds : p k ≡ true
+  pub before : (j : ℕ) → from ≤ j → j < k → p j ≡ false
+
+pub found-at : (p : ℕ → Bool) (from n k : ℕ) → firstOf p from n ≡ At k → Found p from n k
+unfolding firstOf None
+found-at p from zero k e = let z : _≡_ {A = ℕ} 0 1 = cc in absurd (omega arith)
+found-at p from (suc n) k e = go (p from) refl e (found-at p (suc from) n k)
+  where
+    go : (b : Bool) → p from ≡ b → cond b (At from) (firstOf p (suc from) n) ≡ At k → (firstOf p (suc from) n ≡ At k → Found p (suc from) n k) → Found p from (suc n) k
+    go true q f ih =
+        let s : from ≡ k = cc in
+        record { low = omega arith; high = omega arith; holds = ap p (sym s) ∙ q; before = λ j lo hi. absurd (omega arith) }
+    go false q f ih =
+        let r = ih f in
+        record { low = omega (arith, r .low); high = omega (arith, r .high); holds = r .holds; before = none-more p from k q (r .before) }

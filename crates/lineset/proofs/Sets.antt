@@ -9,10 +9,11 @@ use mathlib.Core.List.{List}
 use lib.Dec.{eqb}
 use lib.ListN.{getD, length, List·getD-eq-default}
 use lib.Seq.{ext-getD}
-use mir.Val.{boolByte}
+use mir.Val.{Fits, boolByte}
+use mir.Syntax.{w64}
 use Rattle.lineset.specs.declared.LineSet.{LineSet}
 use Rattle.lineset.specs.Lines.{packed, setOf, member, countOf}
-use Rattle.lineset.proofs.Laws.{packed-lt, packed-bit, packed-number, packed-agree, count-agree}
+use Rattle.lineset.proofs.Packed.{packed-lt, packed-bit, packed-number, packed-agree, count-agree}
 
 digit-test : (b : Bool) → eqb (boolByte b) 1 ≡ b
 digit-test true = refl
@@ -45,6 +46,10 @@ member-set p L l =
 pub record Words (s : LineSet) : Type 0 where
   pub four : length (s .words) ≡ 4
   pub small : (j : ℕ) → getD (s .words) j 0 < 2 ^ 64
+
+-- at a function's entry both are at hand
+pub words-of : {s : LineSet} → length (s .words) ≡ 4 → ((j : ℕ) → Fits w64 (getD (s .words) j 0)) → Words s
+words-of four fits = record { four = four; small = λ j. fits j .fits }
 
 set-small : (p : ℕ → Bool) (j : ℕ) → getD (setOf p .words) j 0 < 2 ^ 64
 unfolding setOf

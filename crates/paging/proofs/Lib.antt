@@ -1,1 +1,2 @@
-pub mod Laws
+pub mod Maps
+pub mod Memory

@@ -1,24 +1,25 @@
--- Which 16K block and place an access reaches: document 01, "Memory", and Issue 9, section 8.
+-- Which 16K block and place an access reaches: document 01, "Memory" and "Keyboard word", and Issue 9, section 8.
 use Prim.Native.Nat.{ℕ, _+_, _*_, _/_, _%_}
 use mathlib.Core.Bool.{Bool, cond, _&&_}
 use lib.Dec.{eqb, ltb}
 use lib.ListN.{getD}
-use Rattle.memory.specs.declared.Sizes.{Sizes}
-use Rattle.memory.specs.Maps.{mapRead, mapWrite}
+use Rattle.paging.specs.declared.Sizes.{Sizes}
 use Rattle.paging.specs.declared.Paging.{Paging}
+use Rattle.paging.specs.declared.Reach.{Reach}
+use Rattle.paging.specs.Maps.{mapRead, mapWrite}
 
--- the 16K bank of an address, 0 to 3, and its place in the bank
+-- "Bank = address / 16,384; place = address mod 16,384."
 unfoldable pub bankOf : ℕ → ℕ
 bankOf address = address / 16384
 
 unfoldable pub placeOf : ℕ → ℕ
 placeOf address = address % 16384
 
--- the weight of each bank's bit in the lock byte: D6 bank 0000h, D4 4000h, D5 8000h, D7 C000h
+-- "Lock bits: D7 bank C000h, D6 0000h, D5 8000h, D4 4000h": the weight of a bank's bit
 unfoldable pub lockWeight : ℕ → ℕ
 lockWeight bank = cond (eqb bank 0) 64 (cond (eqb bank 1) 16 (cond (eqb bank 2) 32 128))
 
--- whether a bank reads its write block; a number over 3 is no bank and is never locked
+-- whether a bank's lock bit is set; a number over 3 is no bank and is never locked
 unfoldable pub locked : ℕ → ℕ → Bool
 locked lock bank = ltb bank 4 && eqb (lock / lockWeight bank % 2) 1
 
@@ -29,9 +30,20 @@ writeBlock s p address = mapWrite s (getD (p .maps) (bankOf address) 0)
 unfoldable pub readBlock : Sizes → Paging → ℕ → ℕ
 readBlock s p address = mapRead s (locked (p .lock) (bankOf address)) (getD (p .maps) (bankOf address) 0)
 
--- the same as places in the RAM
-unfoldable pub writePlace : Sizes → Paging → ℕ → ℕ
-writePlace s p address = writeBlock s p address * 16384 + placeOf address
+-- both, and the place
+unfoldable pub reachOf : Sizes → Paging → ℕ → Reach
+reachOf s p address = record { read = readBlock s p address; write = writeBlock s p address; place = placeOf address }
 
-unfoldable pub readPlace : Sizes → Paging → ℕ → ℕ
-readPlace s p address = readBlock s p address * 16384 + placeOf address
+-- a block and a place as an index into the RAM
+abbrev pub indexOf : ℕ → ℕ → ℕ
+indexOf block place = block * 16384 + place
+
+unfoldable pub writeIndex : Sizes → Paging → ℕ → ℕ
+writeIndex s p address = indexOf (writeBlock s p address) (placeOf address)
+
+unfoldable pub readIndex : Sizes → Paging → ℕ → ℕ
+readIndex s p address = indexOf (readBlock s p address) (placeOf address)
+
+-- "Stores its value at block 3, place 3FF0h + offset"
+unfoldable pub keyboardIndex : ℕ → ℕ
+keyboardIndex offset = indexOf 3 (0x3FF0 + offset)

@@ -153,8 +153,3 @@ unfolding Filled
 filled-all line out h f =
     ext-getD 0 out (widened line) (h ∙ sym (length-widened line))
     (λ i l. f i (rw h at l) ∙ sym (getD-widened line i (rw h at l)))
-
--- document 01's case: A5h is CCh 33h
-pub doubled-case : (doubledByte 0xA5 0 ≡ 0xCC) × (doubledByte 0xA5 1 ≡ 0x33)
-unfolding doubledByte byteOf digits pixelOf
-doubled-case = (refl, refl)

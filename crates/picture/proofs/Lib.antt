@@ -1,4 +1,2 @@
 pub mod Answers
-pub mod Found
-pub mod Over
 pub mod Painting

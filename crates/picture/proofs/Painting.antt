@@ -8,16 +8,17 @@ use mathlib.Core.List.{List}
 use borrow.Author.Tests.{eqb-true, eqb-false, ltb-true, ltb-false, lt-ltb, le-ltb, le-leb, leb-true}
 use lib.Dec.{eqb, ltb, leb}
 use lib.ListN.{length, getD}
-use Rattle.lineset.specs.declared.Line.the-variants.{At, Nothing}
+use Rattle.lineset.specs.declared.NextLine.the-variants.{At, Nothing}
 use Rattle.lineset.specs.Lines.{firstOf}
-use Rattle.pointers.specs.declared.Pointer.{Pointer}
-use Rattle.pointers.specs.Pointers.{pointerOf, pointerWord, entryPlace}
-use Rattle.pointers.proofs.Laws.{pointer-word-lt}
-use Rattle.scanline.specs.Drawing.{View, pixelPlace, drawnByte, wordAt, pixelAt, drawn}
-use Rattle.scanline.proofs.Pixels.{pixel-place-lt}
-use Rattle.picture.specs.Pictures.{over, painted}
-use Rattle.picture.proofs.Found.{Found, found-at, found-none}
-use Rattle.picture.proofs.Over.{over-length, over-at, over-none, over-same, over-or, between, between-in}
+use Rattle.scanline.specs.declared.Pointer.{Pointer}
+use Rattle.scanline.specs.Pointers.{pointerOf, pointerWord, entryIndex}
+use Rattle.scanline.proofs.Pointers.{pointer-word-lt}
+use Rattle.scanline.specs.Drawing.{View, pixelIndex, drawnByte, wordAt, pixelAt, drawn}
+use Rattle.scanline.proofs.Pixels.{pixel-index-lt}
+use Rattle.facts.specs.Lists.{overlaid}
+use Rattle.facts.proofs.Overlaid.{overlaid-length, overlaid-at, overlaid-none, overlaid-same, overlaid-or, between, between-in}
+use Rattle.lineset.proofs.Search.{Found, found-at, found-none}
+use Rattle.picture.specs.Pictures.{painted}
 
 -- byte k of a picture as it is drawn
 abbrev pub cell : View → ℕ → ℕ
@@ -26,46 +27,44 @@ cell v k = drawn v (k / 90) (k % 90)
 module _ (v : View) (picture : List ℕ) where
   pub painted-length : (lines : ℕ → Bool) → length (painted lines v picture) ≡ length picture
   unfolding painted
-  painted-length lines = over-length (λ (k : ℕ). lines (k / 90)) (cell v) picture
+  painted-length lines = overlaid-length (λ (k : ℕ). lines (k / 90)) (cell v) picture
 
-  -- byte i of line L
-  pub painted-line : (lines : ℕ → Bool) (L i : ℕ) → i < 90 → L * 90 + i < length picture
-      → getD (painted lines v picture) (L * 90 + i) 0 ≡ cond (lines L) (drawn v L i) (getD picture (L * 90 + i) 0)
+  -- byte k, and byte i of line L
+  pub painted-at : (lines : ℕ → Bool) (k : ℕ) → k < length picture → getD (painted lines v picture) k 0 ≡ cond (lines (k / 90)) (cell v k) (getD picture k 0)
   unfolding painted
-  painted-line lines L i h l =
-      let e : (L * 90 + i) / 90 ≡ L = omega arith in
-      let f : (L * 90 + i) % 90 ≡ i = omega arith in
-      over-at (λ (k : ℕ). lines (k / 90)) (cell v) picture (L * 90 + i) l ∙ rw (e, f)
+  painted-at lines k l = overlaid-at (λ (j : ℕ). lines (j / 90)) (cell v) picture k l
 
-  -- a line outside the set keeps its bytes
-  pub painted-kept : (lines : ℕ → Bool) (L i : ℕ) → lines L ≡ false → i < 90 → L * 90 + i < length picture
-      → getD (painted lines v picture) (L * 90 + i) 0 ≡ getD picture (L * 90 + i) 0
-  painted-kept lines L i e h l = painted-line lines L i h l ∙ rw e
+  pub painted-byte : (lines : ℕ → Bool) (L i : ℕ) → i < 90 → 90 * L + i < length picture
+      → getD (painted lines v picture) (90 * L + i) 0 ≡ cond (lines L) (drawn v L i) (getD picture (90 * L + i) 0)
+  painted-byte lines L i h l =
+      let e : (90 * L + i) / 90 ≡ L = omega arith in
+      let f : (90 * L + i) % 90 ≡ i = omega arith in
+      painted-at lines (90 * L + i) l ∙ rw (e, f)
 
   pub painted-none : (lines : ℕ → Bool) → ((L : ℕ) → lines L ≡ false) → painted lines v picture ≡ picture
   unfolding painted
-  painted-none lines h = over-none (λ (k : ℕ). lines (k / 90)) (cell v) picture (λ k l. h (k / 90))
+  painted-none lines h = overlaid-none (λ (k : ℕ). lines (k / 90)) (cell v) picture (λ k l. h (k / 90))
 
   -- sets that agree on the picture's lines
   pub painted-agree : (p q : ℕ → Bool) (n : ℕ) → length picture ≡ n * 90 → ((L : ℕ) → L < n → p L ≡ q L) → painted p v picture ≡ painted q v picture
   unfolding painted
   painted-agree p q n size h =
-      over-same (λ (k : ℕ). p (k / 90)) (λ (k : ℕ). q (k / 90)) (cell v) (cell v) picture (λ k l. h (k / 90) (omega arith)) (λ k l t. refl)
+      overlaid-same (λ (k : ℕ). p (k / 90)) (λ (k : ℕ). q (k / 90)) (cell v) (cell v) picture (λ k l. h (k / 90) (omega arith)) (λ k l t. refl)
 
   pub painted-same : (p q : ℕ → Bool) → ((L : ℕ) → p L ≡ q L) → painted p v picture ≡ painted q v picture
   unfolding painted
   painted-same p q h =
-      over-same (λ (k : ℕ). p (k / 90)) (λ (k : ℕ). q (k / 90)) (cell v) (cell v) picture (λ k l. h (k / 90)) (λ k l t. refl)
+      overlaid-same (λ (k : ℕ). p (k / 90)) (λ (k : ℕ). q (k / 90)) (cell v) (cell v) picture (λ k l. h (k / 90)) (λ k l t. refl)
 
   -- lines drawn over lines drawn
   pub painted-or : (p q : ℕ → Bool) → painted p v (painted q v picture) ≡ painted (λ (L : ℕ). p L || q L) v picture
   unfolding painted
-  painted-or p q = over-or (λ (k : ℕ). p (k / 90)) (λ (k : ℕ). q (k / 90)) (cell v) picture
+  painted-or p q = overlaid-or (λ (k : ℕ). p (k / 90)) (λ (k : ℕ). q (k / 90)) (cell v) picture
 
   -- the 90 bytes of one line
-  pub one-line : (L : ℕ) → over (between (L * 90) (L * 90 + 90)) (cell v) picture ≡ painted (λ (M : ℕ). eqb M L) v picture
+  pub one-line : (L : ℕ) → overlaid (between (L * 90) (L * 90 + 90)) (cell v) picture ≡ painted (λ (M : ℕ). eqb M L) v picture
   unfolding painted between
-  one-line L = over-same (between (L * 90) (L * 90 + 90)) (λ (k : ℕ). eqb (k / 90) L) (cell v) (cell v) picture (λ k l. go k (eqb (k / 90) L) refl) (λ k l t. refl)
+  one-line L = overlaid-same (between (L * 90) (L * 90 + 90)) (λ (k : ℕ). eqb (k / 90) L) (cell v) (cell v) picture (λ k l. go k (eqb (k / 90) L) refl) (λ k l t. refl)
     where
       go : (k : ℕ) (b : Bool) → eqb (k / 90) L ≡ b → (leb (L * 90) k && ltb k (L * 90 + 90)) ≡ b
       go k true e = let z = eqb-true (k / 90) L e in rw (le-leb (L * 90) k (omega arith), lt-ltb k (L * 90 + 90) (omega arith))
@@ -77,10 +76,10 @@ module _ (v : View) (picture : List ℕ) where
 
 -- byte k of a picture by the pointer of the line that starts at `first`
 unfoldable pub lineByte : ℕ → List ℕ → Pointer → ℕ → ℕ → ℕ
-lineByte control ram p first k = drawnByte control (getD ram (pixelPlace p (k - first)) 0)
+lineByte control ram p first k = drawnByte control (getD ram (pixelIndex p (k - first)) 0)
 
 -- byte i of the line
-pub line-byte : (control : ℕ) (ram : List ℕ) (p : Pointer) (first i at b : ℕ) → at ≡ pixelPlace p i → b ≡ drawnByte control (getD ram at 0)
+pub line-byte : (control : ℕ) (ram : List ℕ) (p : Pointer) (first i at b : ℕ) → at ≡ pixelIndex p i → b ≡ drawnByte control (getD ram at 0)
     → b ≡ lineByte control ram p first (first + i)
 unfolding lineByte
 line-byte control ram p first i at b e f =
@@ -88,17 +87,17 @@ line-byte control ram p first i at b e f =
     f ∙ rw (z, e)
 
 -- with the line's own pointer the 90 bytes are the line drawn
-pub line-done : (v : View) (L word : ℕ) (p : Pointer) (xs ys : List ℕ) → word ≡ pointerWord (v .ram) (v .table) (v .top) L → p ≡ pointerOf word
-    → ys ≡ over (between (L * 90) (L * 90 + 90)) (lineByte (v .control) (v .ram) p (L * 90)) xs
+pub line-done : (v : View) (L word : ℕ) (p : Pointer) (xs ys : List ℕ) → word ≡ pointerWord (v .ram) (v .video .table) (v .video .top) L → p ≡ pointerOf word
+    → ys ≡ overlaid (between (L * 90) (L * 90 + 90)) (lineByte (v .video .control) (v .ram) p (L * 90)) xs
     → ys ≡ painted (λ (M : ℕ). eqb M L) v xs
 unfolding lineByte drawn pixelAt wordAt
 line-done v L word p xs ys w r e =
     e
-    ∙ over-same (between (L * 90) (L * 90 + 90)) (between (L * 90) (L * 90 + 90)) (lineByte (v .control) (v .ram) p (L * 90)) (cell v) xs (λ k l. refl)
+    ∙ overlaid-same (between (L * 90) (L * 90 + 90)) (between (L * 90) (L * 90 + 90)) (lineByte (v .video .control) (v .ram) p (L * 90)) (cell v) xs (λ k l. refl)
     (λ k l t. same k (between-in (L * 90) (L * 90 + 90) k t))
     ∙ one-line v xs L
   where
-    same : (k : ℕ) → (L * 90 ≤ k) × (k < L * 90 + 90) → lineByte (v .control) (v .ram) p (L * 90) k ≡ cell v k
+    same : (k : ℕ) → (L * 90 ≤ k) × (k < L * 90 + 90) → lineByte (v .video .control) (v .ram) p (L * 90) k ≡ cell v k
     same k h =
         let d : k / 90 ≡ L = omega (arith, h .0, h .1) in
         let m : k % 90 ≡ k - L * 90 = omega (arith, h .0, h .1) in
@@ -106,10 +105,10 @@ line-done v L word p xs ys w r e =
 
 -- a line's pixel bytes lie in standard RAM
 pub pixel-inside : (ram : List ℕ) (table top L word i at : ℕ) (p : Pointer) → ((j : ℕ) → getD ram j 0 < 256) → word ≡ pointerWord ram table top L → p ≡ pointerOf word
-    → at ≡ pixelPlace p i → at < 131072
+    → at ≡ pixelIndex p i → at < 131072
 pixel-inside ram table top L word i at p small w r e =
-    let l : word < 65536 = rw w (pointer-word-lt ram table top L (small (entryPlace table top L)) (small (entryPlace table top L + 1))) in
-    rw (e, r) (pixel-place-lt word i l)
+    let l : word < 65536 = rw w (pointer-word-lt ram table top L (small (entryIndex table top L)) (small (entryIndex table top L + 1))) in
+    rw (e, r) (pixel-index-lt word i l)
 
 -- ---- line by line: the lines below n that a set has
 

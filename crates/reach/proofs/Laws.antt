@@ -9,10 +9,11 @@ use borrow.Author.Tests.{not-true, not-false, lt-ltb, le-ltb, ltb-false}
 use lib.Dec.{ltb, lit≤}
 use lib.ListN.{length, take, drop, length-append, length-take, length-drop}
 use lib.Seq.{paste, take-append-seam, drop-append-add, drop-drop, length-take-le}
-use Rattle.memory.specs.Maps.{allowed}
+use Rattle.facts.specs.Lists.{inRoom}
+use Rattle.paging.specs.Maps.{allowed}
 use Rattle.reach.specs.declared.Listed.{Listed}
 use Rattle.reach.specs.Text.{sizesOf, pagingOf, addressOf, reachLine, refusalLine, wholeLine, groupLine}
-use Rattle.reach.specs.Text.{hex2, hex4, lineAt, textOf, groups, reachText, over, listed, listedOut}
+use Rattle.reach.specs.Text.{hex2, hex4, lineAt, textOf, groups, reachText, listed, listedOut}
 
 module _ (g : List ℕ) (b : Bool) (e : b ≡ allowed (sizesOf g)) where
   pub whole-refused : not b ≡ true → refusalLine 6 ≡ wholeLine g
@@ -59,9 +60,9 @@ text-length input zero = omega arith
 text-length input (suc k) =
     simp length-append (omega (arith, text-length input k, group-line-length (take 9 (drop (9 * k) input))))
 
-pub over-length : (text out : List ℕ) → length text ≤ length out → length (over text out) ≡ length out
-unfolding over
-over-length text out h = simp (length-append, length-drop) (omega arith)
+pub room-length : (text out : List ℕ) → length text ≤ length out → length (inRoom text out) ≡ length out
+unfolding inRoom
+room-length text out h = simp (length-append, length-drop) (omega arith)
 
 -- the copy of a line's bytes puts the line down
 module _ (d bytes line : List ℕ) (to used : ℕ) (text : take used bytes ≡ line) where
@@ -71,36 +72,36 @@ module _ (d bytes line : List ℕ) (to used : ℕ) (text : take used bytes ≡ l
   pub pasted : paste d to bytes used ≡ take to d ++ line ++ drop (to + used) d
   pasted = rw text
 
-over-step : (t l out : List ℕ) → take (length t) (over t out) ++ l ++ drop (length t + length l) (over t out) ≡ over (t ++ l) out
-unfolding over
-over-step t l out = rw (take-append-seam, drop-append-add, drop-drop, length-append)
+room-step : (t l out : List ℕ) → take (length t) (inRoom t out) ++ l ++ drop (length t + length l) (inRoom t out) ≡ inRoom (t ++ l) out
+unfolding inRoom
+room-step t l out = rw (take-append-seam, drop-append-add, drop-drop, length-append)
 
 -- one more line put down after the first k
-module _ (input start out : List ℕ) (k to : ℕ) (at : to ≡ length (textOf input k)) (so-far : out ≡ over (textOf input k) start) where
+module _ (input start out : List ℕ) (k to : ℕ) (at : to ≡ length (textOf input k)) (so-far : out ≡ inRoom (textOf input k) start) where
   pub room : k < groups (length input) → 20 * groups (length input) ≤ length start → to + 20 ≤ length out
   room h fits =
-      omega (arith, at, text-length input k, ap length so-far, over-length (textOf input k) start (omega (arith, text-length input k)))
+      omega (arith, at, text-length input k, ap length so-far, room-length (textOf input k) start (omega (arith, text-length input k)))
 
   pub next-length : {r : ℕ} → r ≡ to + length (lineAt input k) → r ≡ length (textOf input (k + 1))
   unfolding textOf
   next-length e = rw add-one (e ∙ ap (λ (n : ℕ). n + length (lineAt input k)) at ∙ sym (length-append (textOf input k) (lineAt input k)))
 
   pub next-out : {r : ℕ} {after : List ℕ} → r ≡ to + length (lineAt input k) → after ≡ take to out ++ lineAt input k ++ drop r out
-      → after ≡ over (textOf input (k + 1)) start
+      → after ≡ inRoom (textOf input (k + 1)) start
   unfolding textOf
-  next-out e f = rw (f, e, at, so-far, add-one) (over-step (textOf input k) (lineAt input k) start)
+  next-out e f = rw (f, e, at, so-far, add-one) (room-step (textOf input k) (lineAt input k) start)
 
 -- the text before the first line, and after the last
-pub over-nothing : (out : List ℕ) → out ≡ over [] out
-unfolding over
-over-nothing out = refl
+pub room-nothing : (out : List ℕ) → out ≡ inRoom [] out
+unfolding inRoom
+room-nothing out = refl
 
 module _ (input start : List ℕ) where
   pub refused : length start / 20 < groups (length input) → (listed input (length start) ≡ record { length = 0; refusal = 2 }) × (listedOut input start ≡ start)
   unfolding listed listedOut
   refused h = let t : ltb (length start) (20 * groups (length input)) ≡ true = lt-ltb (length start) (20 * groups (length input)) (omega arith) in (rw t, rw t)
 
-  pub accepted : groups (length input) ≤ length start / 20 → (listed input (length start) ≡ record { length = length (reachText input); refusal = 0 }) × (listedOut input start ≡ over (reachText input) start)
+  pub accepted : groups (length input) ≤ length start / 20 → (listed input (length start) ≡ record { length = length (reachText input); refusal = 0 }) × (listedOut input start ≡ inRoom (reachText input) start)
   unfolding listed listedOut
   accepted h = let t : ltb (length start) (20 * groups (length input)) ≡ false = le-ltb (length start) (20 * groups (length input)) (omega arith) in (rw t, rw t)
 

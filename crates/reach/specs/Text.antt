@@ -4,10 +4,11 @@ use mathlib.Core.List.{List, [], _∷_, _++_}
 use mathlib.Core.Bool.{cond}
 use lib.Dec.{ltb}
 use lib.ListN.{length, getD, take, drop}
-use Rattle.memory.specs.declared.Sizes.{Sizes}
+use Rattle.facts.specs.Lists.{inRoom}
+use Rattle.paging.specs.declared.Sizes.{Sizes}
 use Rattle.paging.specs.declared.Paging.{Paging}
 use Rattle.paging.specs.Memory.{placeOf, readBlock, writeBlock}
-use Rattle.memory.specs.Maps.{allowed}
+use Rattle.paging.specs.Maps.{allowed}
 use Rattle.reach.specs.declared.Listed.{Listed}
 
 -- the last hex digit of a number, in upper case; its last two; its last four
@@ -61,10 +62,6 @@ groups size = (size + 8) / 9
 unfoldable pub reachText : List ℕ → List ℕ
 reachText input = textOf input (groups (length input))
 
--- a text put at the start of `out`
-unfoldable pub over : List ℕ → List ℕ → List ℕ
-over text out = text ++ drop (length text) out
-
 -- what `list` answers and leaves in `out`, which must have 20 bytes for each group
 unfoldable pub listed : List ℕ → ℕ → Listed
 listed input room =
@@ -72,4 +69,4 @@ listed input room =
     (record { length = length (reachText input); refusal = 0 })
 
 unfoldable pub listedOut : List ℕ → List ℕ → List ℕ
-listedOut input out = cond (ltb (length out) (20 * groups (length input))) out (over (reachText input) out)
+listedOut input out = cond (ltb (length out) (20 * groups (length input))) out (inRoom (reachText input) out)

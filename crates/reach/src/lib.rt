@@ -4,10 +4,11 @@ ghost use mathlib.Core.Path.{_≡_};
 ghost use mathlib.Core.List.{_++_};
 ghost use lib.ListN.{length, take, drop};
 ghost use lib.Seq.{paste};
+ghost use Rattle.facts.specs.Lists.{inRoom};
 ghost use Rattle.reach.specs.Text.{hexDigit, reachLine, wholeLine, groupLine, refusalLine};
-ghost use Rattle.reach.specs.Text.{groups, reachText, over, listed, listedOut};
-use memory::Sizes;
+ghost use Rattle.reach.specs.Text.{groups, reachText, listed, listedOut};
 use paging::Paging;
+use paging::Sizes;
 
 // How many bytes of `out` the text takes, and 0; or 0 bytes and the refusal number.
 #[repr(C)]
@@ -47,9 +48,10 @@ fn reach_line(sizes: Sizes, paging: Paging, address: u16) -> Line
     ensures { λ r. ⌜ take (r .used) (r .bytes) ≡ reachLine sizes paging address ⌝ }
     ensures { λ r. ⌜ r .used ≤ 20 ⌝ }
 {
-    let r = paging.read_block(sizes, address) as u16;
-    let w = paging.write_block(sizes, address) as u16;
-    let p = paging::place(address);
+    let reach = paging.reach(sizes, address);
+    let r = reach.read as u16;
+    let w = reach.write as u16;
+    let p = reach.place;
     let a = digit(p / 4096);
     let b = digit(p / 256);
     let c = digit(p / 16);
@@ -154,7 +156,7 @@ fn count(input: &[u8]) -> usize
 fn fill(input: &[u8], out: &mut [u8]) -> usize
     requires { ⌜ 20 * groups (length (now input)) ≤ length (now out) ⌝ }
     ensures { λ r. ⌜ r ≡ length (reachText (now (input .entry))) ⌝ }
-    ensures { λ r. ⌜ now (out .exit) ≡ over (reachText (now (input .entry))) (now (out .entry)) ⌝ }
+    ensures { λ r. ⌜ now (out .exit) ≡ inRoom (reachText (now (input .entry))) (now (out .entry)) ⌝ }
 {
     let n = count(input);
     let mut to = 0;

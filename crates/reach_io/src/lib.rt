@@ -1,4 +1,5 @@
 // The reach list as a program: groups of 9 bytes from standard input, lines of text to standard output.
+ghost use mathlib.Core.Path.{_≡_};
 use libc::STDIN_FILENO;
 use libc::STDOUT_FILENO;
 
@@ -19,8 +20,11 @@ fn list_all(input: &mut [u8], out: &mut [u8]) {
     }
 }
 
-// 400 groups at a time, so that a chunk ends where a group does, and the 20 bytes that each may take.
-pub fn run() {
+// 400 groups at a time, so that a chunk ends where a group does, and the 20 bytes that each may take. No clause can say what is read
+// or written: what each chunk gives is `reach::list`, and that chunks may be cut so is its law `chunked`.
+pub fn run()
+    ensures { λ r. ⌜ r ≡ tt ⌝ }
+{
     if !io::write_all(STDOUT_FILENO, b"REACH\n") {
         return;
     }

@@ -1,12 +1,6 @@
-pub mod Accepted
-pub mod Away
-pub mod Drawing
-pub mod Keeping
-pub mod Mirroring
-pub mod Model
-pub mod Painting
-pub mod Redrawing
+pub mod Invariant
+pub mod OtherMemory
+pub mod Refresh
 pub mod Sentences
-pub mod Standing
-pub mod Ticking
-pub mod Whole
+pub mod Theorem
+pub mod Ticks

@@ -1,4 +1,3 @@
 pub mod Events
 pub mod Reference
 pub mod Ticks
-pub mod Reset

@@ -1,4 +1,4 @@
 pub mod Changes
-pub mod Packed
 pub mod Pixels
+pub mod Pointers
 pub mod Touches

@@ -1,23 +1,24 @@
--- Laws of the places of a line's 90 pixel bytes: where they lie, and a test for them with no search.
+-- Laws of the indexes of a line's 90 pixel bytes: where they lie, and a test for them with no search.
+-- Assumes nothing.
 use Prim.Native.Nat.{ℕ, _+_, _-_, _*_, _/_, _%_, _≤_, _<_}
 use mathlib.Core.Path.{_≡_, refl, ap, sym, _∙_}
 use mathlib.Core.Bool.{Bool, true, false, _&&_}
 use native.Mathlib.Omega.{arith}
 use borrow.Author.Tests.{ltb-true, ltb-false, lt-ltb, le-ltb, eq-eqb, ne-eqb, eqb-true, eqb-false}
 use lib.Dec.{eqb, ltb}
-use Rattle.lineset.proofs.Any.{any-none, any-some}
-use Rattle.pointers.specs.Pointers.{pointerOf}
-use Rattle.scanline.specs.Drawing.{pixelPlace, pixelTouched}
-use Rattle.pointers.specs.declared.Pointer.{Pointer}
+use Rattle.facts.proofs.Tests.{any-none, any-some}
+use Rattle.scanline.specs.Pointers.{pointerOf}
+use Rattle.scanline.specs.Drawing.{pixelIndex, pixelTouched}
+use Rattle.scanline.specs.declared.Pointer.{Pointer}
 
 -- a start lies in its block, and a pixel byte in standard RAM
 pub start-lt : (w : ℕ) → pointerOf w .start < 16384
 unfolding pointerOf
 start-lt w = omega arith
 
-pub pixel-place-lt : (w i : ℕ) → w < 65536 → pixelPlace (pointerOf w) i < 131072
-unfolding pixelPlace pointerOf
-pixel-place-lt w i h = omega arith
+pub pixel-index-lt : (w i : ℕ) → w < 65536 → pixelIndex (pointerOf w) i < 131072
+unfolding pixelIndex pointerOf
+pixel-index-lt w i h = omega arith
 
 -- the way from a start to a place, round its block: the ways that are below 720 and eight times a number are those of pixel bytes
 abbrev gap : ℕ → ℕ → ℕ
@@ -35,47 +36,47 @@ at-gap :
 at-gap start block at s b g = omega arith
 
 -- the places of the pixel bytes are the only ones touched
-touched-none : (w at : ℕ) → ((i : ℕ) → i < 90 → at ≡ pixelPlace (pointerOf w) i → ⊥) → pixelTouched w at ≡ false
+touched-none : (w at : ℕ) → ((i : ℕ) → i < 90 → at ≡ pixelIndex (pointerOf w) i → ⊥) → pixelTouched w at ≡ false
 unfolding pixelTouched
 touched-none w at h =
-    any-none (λ (i : ℕ). eqb at (pixelPlace (pointerOf w) i)) 0 90
-    (λ i lo hi. ne-eqb at (pixelPlace (pointerOf w) i) (h i (omega arith)))
+    any-none (λ (i : ℕ). eqb at (pixelIndex (pointerOf w) i)) 0 90
+    (λ i lo hi. ne-eqb at (pixelIndex (pointerOf w) i) (h i (omega arith)))
 
 -- none lies past standard RAM
 pub pixels-below : (w at : ℕ) → w < 65536 → 131072 ≤ at → pixelTouched w at ≡ false
 pixels-below w at h p =
-    touched-none w at (λ (i : ℕ) (l : i < 90) (z : at ≡ pixelPlace (pointerOf w) i). omega (arith, pixel-place-lt w i h))
+    touched-none w at (λ (i : ℕ) (l : i < 90) (z : at ≡ pixelIndex (pointerOf w) i). omega (arith, pixel-index-lt w i h))
 
 -- the test of a place, one by one: another block, no multiple of eight, and the length of the way
 pub other-block : (w at : ℕ) (p : Pointer) → p ≡ pointerOf w → (at / 16384 ≡ p .block → ⊥) → pixelTouched w at ≡ false
-unfolding pixelPlace
+unfolding pixelIndex
 other-block w at p e ne =
-    touched-none w at (λ (i : ℕ) (h : i < 90) (z : at ≡ pixelPlace (pointerOf w) i). let f : p .block ≡ pointerOf w .block = ap (λ (q : Pointer). q .block) e in ne (omega arith))
+    touched-none w at (λ (i : ℕ) (h : i < 90) (z : at ≡ pixelIndex (pointerOf w) i). let f : p .block ≡ pointerOf w .block = ap (λ (q : Pointer). q .block) e in ne (omega arith))
 
 pub other-gap :
     (w at : ℕ) (p : Pointer) → p ≡ pointerOf w → (gap (p .start) at % 8 ≡ 0 → ⊥) → pixelTouched w at ≡ false
-unfolding pixelPlace
+unfolding pixelIndex
 other-gap w at p e ne =
     touched-none w at
-    (λ (i : ℕ) (h : i < 90) (z : at ≡ pixelPlace (pointerOf w) i).
+    (λ (i : ℕ) (h : i < 90) (z : at ≡ pixelIndex (pointerOf w) i).
     let f : p .start ≡ pointerOf w .start = ap (λ (q : Pointer). q .start) e in
     let g = gap-of (pointerOf w .start) (pointerOf w .block) at i (start-lt w) h z in
     ne (rw f (rw g (omega arith))))
 
 module _ (w at : ℕ) (b : at / 16384 ≡ pointerOf w .block) (g : gap (pointerOf w .start) at % 8 ≡ 0) where
   near : gap (pointerOf w .start) at < 720 → pixelTouched w at ≡ true
-  unfolding pixelTouched pixelPlace
+  unfolding pixelTouched pixelIndex
   near h =
-      any-some (λ (i : ℕ). eqb at (pixelPlace (pointerOf w) i)) 0 90 (gap (pointerOf w .start) at / 8)
+      any-some (λ (i : ℕ). eqb at (pixelIndex (pointerOf w) i)) 0 90 (gap (pointerOf w .start) at / 8)
       (omega arith)
       (omega arith)
-      (eq-eqb at (pixelPlace (pointerOf w) (gap (pointerOf w .start) at / 8)) (at-gap (pointerOf w .start) (pointerOf w .block) at (start-lt w) b g))
+      (eq-eqb at (pixelIndex (pointerOf w) (gap (pointerOf w .start) at / 8)) (at-gap (pointerOf w .start) (pointerOf w .block) at (start-lt w) b g))
 
   far : 720 ≤ gap (pointerOf w .start) at → pixelTouched w at ≡ false
-  unfolding pixelPlace
+  unfolding pixelIndex
   far h =
       touched-none w at
-      (λ (i : ℕ) (l : i < 90) (z : at ≡ pixelPlace (pointerOf w) i). omega (arith, gap-of (pointerOf w .start) (pointerOf w .block) at i (start-lt w) l z))
+      (λ (i : ℕ) (l : i < 90) (z : at ≡ pixelIndex (pointerOf w) i). omega (arith, gap-of (pointerOf w .start) (pointerOf w .block) at i (start-lt w) l z))
 
   way : ltb (gap (pointerOf w .start) at) 720 ≡ pixelTouched w at
   way = go (ltb (gap (pointerOf w .start) at) 720) refl

@@ -1,7 +1,7 @@
 //! One call of a list, kept as plain values so that a list can be cut down and made again.
 
-use crate::machine::Numbers;
-use crate::model::{Ask, PowerOn};
+use crate::machine::StepNumbers;
+use crate::model::{Access, PowerOn};
 use crate::record::{Board, BLOCK, PICTURE};
 use std::fmt;
 
@@ -9,9 +9,9 @@ use std::fmt;
 pub enum Call {
     PowerOn(PowerOn),
     Step {
-        step: Numbers,
+        step: StepNumbers,
         ram: usize,
-        stream: usize,
+        boot: usize,
     },
     Draw {
         ram: usize,
@@ -21,17 +21,17 @@ pub enum Call {
         ram: usize,
         picture: usize,
     },
-    NextNoted(u32),
+    NextDirty(u32),
     /// The host hands in this record instead of the one returned.
-    Record(Board),
+    ReplaceRecord(Board),
     /// Others write on the picture.
-    Scribble {
+    OverwritePicture {
         at: usize,
         len: usize,
         seed: u64,
     },
     /// The host alters the RAM between calls.
-    Poke {
+    OverwriteRam {
         at: usize,
         value: u8,
     },
@@ -53,12 +53,12 @@ pub enum Call {
     },
     ReadPointer(u16),
     Roll(u8, u8),
-    Reach(Ask),
+    Reach(Access),
 }
 
 impl Call {
     pub fn writes_picture(&self) -> bool {
-        matches!(self, Call::Draw { .. } | Call::Refresh { .. } | Call::Scribble { .. })
+        matches!(self, Call::Draw { .. } | Call::Refresh { .. } | Call::OverwritePicture { .. })
     }
 }
 
@@ -69,8 +69,8 @@ pub enum Fill {
     Random,
     /// Table at block 2, 3600h, rows of eight lines as the standard software lays them.
     Standard,
-    /// Table over pixels over keyboard bytes, at the top of block 3.
-    Tangle,
+    /// Table, pixels and keyboard bytes share memory, at the top of block 3.
+    Overlap,
     /// Few different pointers, so that many lines share their bytes.
     Shared,
 }
@@ -96,23 +96,23 @@ impl fmt::Display for Setup {
 }
 
 /// Says a step the way the rules do.
-fn step_text(step: &Numbers) -> String {
-    let Numbers { kind, number, value } = *step;
+fn step_text(step: &StepNumbers) -> String {
+    let StepNumbers { kind, number, value } = *step;
     match kind {
-        1 => format!("fetch {number:04X}h{}", not_taken(value)),
-        2 => format!("data read {number:04X}h{}", not_taken(value)),
+        1 => format!("fetch {number:04X}h{}", unused(value)),
+        2 => format!("data read {number:04X}h{}", unused(value)),
         3 => format!("data write {number:04X}h, value {value:02X}h"),
-        4 => format!("channel in {number:02X}h{}", not_taken(value)),
-        5 => format!("channel out {number:02X}h, value {value:02X}h"),
-        6 => format!("scan{}{}", not_taken(number), not_taken(value)),
+        4 => format!("port in {number:02X}h{}", unused(value)),
+        5 => format!("port out {number:02X}h, value {value:02X}h"),
+        6 => format!("scan{}{}", unused(number), unused(value)),
         7 => format!("keyboard word, offset {number}, value {value:02X}h"),
-        8 => format!("disc line {value}{}", not_taken(number)),
-        9 => format!("external line {value}{}", not_taken(number)),
+        8 => format!("disc line {value}{}", unused(number)),
+        9 => format!("external line {value}{}", unused(number)),
         _ => format!("kind {kind}, number {number}, value {value}"),
     }
 }
 
-fn not_taken(number: u32) -> String {
+fn unused(number: u32) -> String {
     if number == 0 {
         String::new()
     } else {
@@ -128,15 +128,17 @@ impl fmt::Display for Call {
                 "power-on: internal {}, total {}, rate {}, maps {:02X?}, lock {:02X}h, F5 {:02X}h, F6 {:02X}h",
                 on.sizes.internal, on.sizes.total, on.rate, on.maps, on.lock, on.table, on.top
             ),
-            Call::Step { step, ram, stream } => {
-                write!(f, "{}; lent RAM {ram}, stream {stream}", step_text(step))
+            Call::Step { step, ram, boot } => {
+                write!(f, "{}; lent RAM {ram}, boot stream {boot}", step_text(step))
             }
             Call::Draw { ram, picture } => write!(f, "draw; lent RAM {ram}, picture {picture}"),
             Call::Refresh { ram, picture } => write!(f, "refresh; lent RAM {ram}, picture {picture}"),
-            Call::NextNoted(n) => write!(f, "next noted line from {n}"),
-            Call::Record(board) => write!(f, "record replaced by {board:X?}"),
-            Call::Scribble { at, len, seed } => write!(f, "{len} picture bytes from {at} overwritten (seed {seed:#x})"),
-            Call::Poke { at, value } => {
+            Call::NextDirty(n) => write!(f, "next dirty line from {n}"),
+            Call::ReplaceRecord(board) => write!(f, "record replaced by {board:X?}"),
+            Call::OverwritePicture { at, len, seed } => {
+                write!(f, "{len} picture bytes from {at} overwritten (seed {seed:#x})")
+            }
+            Call::OverwriteRam { at, value } => {
                 write!(f, "RAM block {}, place {:04X}h overwritten with {value:02X}h", at / BLOCK, at % BLOCK)
             }
             Call::Widen { line, out, seed } => write!(f, "widen {line} bytes to {out} (seed {seed:#x})"),
@@ -146,7 +148,7 @@ impl fmt::Display for Call {
             Call::MakePointer { block, start } => write!(f, "make pointer of block {block}, start {start:04X}h"),
             Call::ReadPointer(word) => write!(f, "read pointer {word:04X}h"),
             Call::Roll(old, new) => write!(f, "roll from {old} to {new}"),
-            Call::Reach(ask) => write!(f, "reach {ask:02X?}"),
+            Call::Reach(access) => write!(f, "reach {access:02X?}"),
         }
     }
 }
@@ -155,5 +157,5 @@ impl fmt::Display for Call {
 pub const PICTURE_ROOM: usize = PICTURE + 256;
 /// Room behind the RAM, to lend it too long.
 pub const RAM_MARGIN: usize = BLOCK + 16;
-/// The longest stream lent, some of it too long.
-pub const STREAM_ROOM: usize = 1_030;
+/// The longest boot stream lent, some of it too long.
+pub const BOOT_ROOM: usize = 1_030;

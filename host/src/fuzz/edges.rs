@@ -1,8 +1,9 @@
 //! The edges of what is accepted, from end to end: each field of a record damaged by itself, each
 //! length near the right one, each kind of step with numbers at their limits.
 
-use super::sweep::{odd_board, same};
-use crate::machine::{Machine, Model, Numbers};
+use super::pair::Side;
+use super::sweep::{board_in_use, same};
+use crate::machine::{Machine, Model, StepNumbers};
 use crate::record::{Board, BLOCK, LINE_BYTES, PICTURE};
 
 /// Sets one field of one byte.
@@ -38,10 +39,10 @@ pub fn damaged_fields(library: &dyn Machine) -> Result<u64, String> {
     let mut calls = 0;
     let mut check = |board: Board| {
         calls += 1;
-        same(|| format!("next noted of {board:?}"), library.next_noted(&board, 0), Model.next_noted(&board, 0))
+        same(|| format!("next dirty line of {board:?}"), library.next_dirty(&board, 0), Model.next_dirty(&board, 0))
     };
     for (rate, route, line) in [(50, 0, 1), (60, 2, 1), (50, 1, 0), (60, 1, 0)] {
-        let sound = odd_board(rate, route, line);
+        let sound = board_in_use(rate, route, line);
         for (set, value) in FIELDS.iter().flat_map(|set| (0..=255).map(move |value| (set, value))) {
             let mut board = sound;
             set(&mut board, value);
@@ -58,17 +59,10 @@ pub fn damaged_fields(library: &dyn Machine) -> Result<u64, String> {
     Ok(calls)
 }
 
-/// Record, RAM and picture of one side, with room behind what is lent.
-#[derive(Clone, PartialEq)]
-struct Side {
-    board: Board,
-    ram: Vec<u8>,
-    picture: Vec<u8>,
-}
-
 const RAM: usize = 8 * BLOCK;
 const ROOM: usize = 8;
 
+/// Library and model with the same record, and with room behind what is lent.
 fn sides(board: Board) -> (Side, Side) {
     let side = Side { board, ram: vec![0x55; RAM + BLOCK], picture: vec![0x33; PICTURE + ROOM] };
     (side.clone(), side)
@@ -80,23 +74,23 @@ fn near(right: usize) -> impl Iterator<Item = usize> + Clone {
 }
 
 pub fn lengths(library: &dyn Machine) -> Result<u64, String> {
-    Ok(streams(library)? + lent_memory(library)? + widened_lengths(library)? + compared_lengths(library)?)
+    Ok(boot_streams(library)? + lent_memory(library)? + widened_lengths(library)? + compared_lengths(library)?)
 }
 
-/// A fetch with streams of every length, from several places.
-fn streams(library: &dyn Machine) -> Result<u64, String> {
-    let stream: Vec<u8> = (0..1_031).map(|at| at as u8).collect();
+/// A fetch with boot streams of every length, from several positions.
+fn boot_streams(library: &dyn Machine) -> Result<u64, String> {
+    let boot: Vec<u8> = (0..1_031).map(|at| at as u8).collect();
     let mut ram = vec![0; RAM];
     for len in 0..=1_030 {
         for at in [0, 5, 1_023, 1_024] {
-            let mut theirs = odd_board(50, 0, 1);
+            let mut theirs = board_in_use(50, 0, 1);
             theirs.boot.at = at;
             let mut ours = theirs;
             let replies = (
-                library.step(&mut theirs, Numbers::fetch(3), &mut ram, &stream[..len]),
-                Model.step(&mut ours, Numbers::fetch(3), &mut ram, &stream[..len]),
+                library.step(&mut theirs, StepNumbers::fetch(3), &mut ram, &boot[..len]),
+                Model.step(&mut ours, StepNumbers::fetch(3), &mut ram, &boot[..len]),
             );
-            same(|| format!("fetch, place {at} of {len}"), (replies.0, theirs), (replies.1, ours))?;
+            same(|| format!("fetch of byte {at} of {len}"), (replies.0, theirs), (replies.1, ours))?;
         }
     }
     Ok(1_031 * 4)
@@ -104,14 +98,14 @@ fn streams(library: &dyn Machine) -> Result<u64, String> {
 
 /// Each step, draw and refresh with RAM and picture of lengths near the right ones.
 fn lent_memory(library: &dyn Machine) -> Result<u64, String> {
-    let (mut theirs, mut ours) = sides(odd_board(60, 0, 1));
+    let (mut theirs, mut ours) = sides(board_in_use(60, 0, 1));
     let mut calls = 0;
     for ram in near(RAM).chain([RAM - BLOCK, RAM + BLOCK]) {
         for kind in 1..=9 {
             // Scan and the lines take no number.
             let number = u32::from(!matches!(kind, 6 | 8 | 9));
             let make = |machine: &dyn Machine, side: &mut Side| {
-                machine.step(&mut side.board, Numbers::new(kind, number, 0), &mut side.ram[..ram], &[9; 64])
+                machine.step(&mut side.board, StepNumbers::new(kind, number, 0), &mut side.ram[..ram], &[9; 64])
             };
             let replies = (make(library, &mut theirs), make(&Model, &mut ours));
             same(|| format!("kind {kind}, RAM {ram}"), replies.0, replies.1)?;
@@ -120,9 +114,9 @@ fn lent_memory(library: &dyn Machine) -> Result<u64, String> {
         for picture in near(PICTURE).chain([LINE_BYTES, 200 * LINE_BYTES]) {
             let make = |machine: &dyn Machine, side: &mut Side| {
                 side.board.dirty.words[3] |= 0x81;
-                let Side { board, ram: lent, picture: paper } = side;
-                let refreshed = machine.refresh(board, &lent[..ram], &mut paper[..picture]);
-                (refreshed, machine.draw(board, &lent[..ram], &mut paper[..picture]))
+                let Side { board, ram: all, picture: lines } = side;
+                let refreshed = machine.refresh(board, &all[..ram], &mut lines[..picture]);
+                (refreshed, machine.draw(board, &all[..ram], &mut lines[..picture]))
             };
             let replies = (make(library, &mut theirs), make(&Model, &mut ours));
             same(|| format!("refresh and draw, RAM {ram}, picture {picture}"), replies.0, replies.1)?;
@@ -164,11 +158,11 @@ fn compared_lengths(library: &dyn Machine) -> Result<u64, String> {
 /// Every kind with every pair of numbers at a limit.
 pub fn numbers(library: &dyn Machine) -> Result<u64, String> {
     const EDGES: [u32; 14] = [0, 1, 2, 3, 15, 16, 17, 255, 256, 257, 0xFFFF, 0x1_0000, 0x1_0001, u32::MAX];
-    let (mut theirs, mut ours) = sides(odd_board(50, 0, 0));
+    let (mut theirs, mut ours) = sides(board_in_use(50, 0, 0));
     let mut calls = 0;
     for kind in (0..=12).chain([255, 256, 257, u32::MAX]) {
         for (number, value) in EDGES.iter().flat_map(|&number| EDGES.map(|value| (number, value))) {
-            let step = Numbers::new(kind, number, value);
+            let step = StepNumbers::new(kind, number, value);
             let make = |machine: &dyn Machine, side: &mut Side| {
                 machine.step(&mut side.board, step, &mut side.ram[..RAM], &[9; 64])
             };

@@ -12,7 +12,7 @@ pub fn filled_ram(setup: &Setup, rng: &mut Rng) -> Vec<u8> {
     }
     match setup.fill {
         Fill::Standard => lay_table(&mut ram, 2 * BLOCK + 0x3600, standard_pointer),
-        Fill::Tangle => lay_table(&mut ram, 3 * BLOCK + 0x3E00, |_| {
+        Fill::Overlap => lay_table(&mut ram, 3 * BLOCK + 0x3E00, |_| {
             // Starts from 3C00h on, so that the 720 bytes run over table and keyboard.
             model::make_pointer(3, 0x3C00 + (rng.below(0x400) as u32 & !8)).word
         }),
@@ -27,8 +27,8 @@ pub fn filled_ram(setup: &Setup, rng: &mut Rng) -> Vec<u8> {
 
 fn lay_table(ram: &mut [u8], at: usize, mut pointer: impl FnMut(u32) -> u16) {
     for entry in 0..256 {
-        let place = at + 2 * entry;
-        ram[place..place + 2].copy_from_slice(&pointer(entry as u32).to_le_bytes());
+        let index = at + 2 * entry;
+        ram[index..index + 2].copy_from_slice(&pointer(entry as u32).to_le_bytes());
     }
 }
 

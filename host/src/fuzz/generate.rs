@@ -1,11 +1,11 @@
 //! Makes up the next call of a list, looking at the model's state to aim at what matters.
 
 use super::call::{Call, Fill, Setup, PICTURE_ROOM, RAM_MARGIN};
-use super::odd;
+use super::pair::Pair;
 use super::rng::Rng;
-use super::world::World;
-use crate::machine::Numbers;
-use crate::model::{self, Ask, PowerOn};
+use super::unusual;
+use crate::machine::StepNumbers;
+use crate::model::{self, Access, PowerOn};
 use crate::record::{Board, Paging, Sizes, BLOCK, LINE_BYTES, PICTURE};
 use std::collections::VecDeque;
 
@@ -24,32 +24,32 @@ impl Generator {
         let on = generator.allowed_power_on();
         generator.queue.push_back(Call::PowerOn(on));
         if !generator.rng.once_in(4) {
-            generator.queue_step(Numbers::channel_out(0xF8, 0));
-            generator.queue_step(Numbers::channel_out(0xF7, 0x40));
+            generator.queue_step(StepNumbers::port_out(0xF8, 0));
+            generator.queue_step(StepNumbers::port_out(0xF7, 0x40));
         }
         generator
     }
 
-    pub fn next(&mut self, world: &World) -> Call {
+    pub fn next(&mut self, pair: &Pair) -> Call {
         if let Some(call) = self.queue.pop_front() {
             return call;
         }
-        let board = world.board();
+        let board = pair.board();
         if board.good() && board.sizes.ram_bytes() <= self.setup.ram_bytes() {
             self.good = *board;
         } else if self.good.good() && self.rng.once_in(3) {
             // The record is bad, or its RAM is not there: everything would be refused from here on.
-            return Call::Record(self.good);
+            return Call::ReplaceRecord(self.good);
         }
-        // Many notes hide notes that are missing, so they are often cleared.
+        // Many dirty lines hide ones that are missing, so they are often cleared.
         if board.dirty.count() > 32 && self.rng.once_in(5) {
             return self.refresh();
         }
-        self.any(world)
+        self.any(pair)
     }
 
-    fn any(&mut self, world: &World) -> Call {
-        let (board, ram) = (world.board(), world.ram());
+    fn any(&mut self, pair: &Pair) -> Call {
+        let (board, ram) = (pair.board(), pair.ram());
         match self.rng.below(100) {
             0..=17 => self.store_on_line(board, ram),
             18..=23 => self.store_in_table(board, ram),
@@ -57,18 +57,18 @@ impl Generator {
             28..=33 => self.keyboard_word(ram),
             34..=38 => self.data_read(),
             39..=43 => self.fetch(board),
-            44..=49 => self.channel_in(),
-            50..=63 => self.channel_out(),
+            44..=49 => self.port_in(),
+            50..=63 => self.port_out(),
             64..=75 => self.scans(),
             76..=79 => self.lines(),
             80..=83 => self.refresh(),
             84 => Call::Draw { ram: self.right_ram(), picture: PICTURE },
-            85..=86 => Call::NextNoted(self.rng.below(258) as u32),
-            87..=89 => odd::wrong_numbers(self),
-            90..=91 => odd::wrong_lengths(self),
-            92..=93 => Call::Record(odd::random_good(self)),
-            94 => Call::Record(odd::damaged(self)),
-            95 => self.by_others(),
+            85..=86 => Call::NextDirty(self.rng.below(258) as u32),
+            87..=89 => unusual::wrong_numbers(self),
+            90..=91 => unusual::wrong_lengths(self),
+            92..=93 => Call::ReplaceRecord(unusual::random_good(self)),
+            94 => Call::ReplaceRecord(unusual::damaged(self)),
+            95 => self.overwrite(),
             96 => self.power_on(),
             _ => self.pure(),
         }
@@ -87,31 +87,31 @@ impl Generator {
         }
     }
 
-    pub fn step(&mut self, step: Numbers) -> Call {
-        Call::Step { step, ram: self.right_ram(), stream: self.rng.below(1_025) as usize }
+    pub fn step(&mut self, step: StepNumbers) -> Call {
+        Call::Step { step, ram: self.right_ram(), boot: self.rng.below(1_025) as usize }
     }
 
-    fn queue_step(&mut self, step: Numbers) {
+    fn queue_step(&mut self, step: StepNumbers) {
         let call = self.step(step);
         self.queue.push_back(call);
     }
 
-    /// A store at a block and place, by a bank that is mapped there first if none is.
+    /// A store at an index of the RAM, by a bank that is mapped there first if none is.
     fn store_at(&mut self, board: &Board, at: usize, value: u8) -> Call {
         let (block, place) = ((at / BLOCK) as u8, (at % BLOCK) as u16);
         let bank = (0..4usize).find(|&bank| model::blocks(board.sizes, &board.paging, bank).1 == block);
         if let Some(bank) = bank {
-            return self.step(Numbers::write((bank as u16) << 14 | place, value));
+            return self.step(StepNumbers::write((bank as u16) << 14 | place, value));
         }
         let bank = self.rng.below(4) as u8;
         let split = self.rng.byte() & 0x70 | block;
         let map = if block < 8 && self.rng.once_in(2) { split } else { 0x80 | block };
-        self.queue_step(Numbers::write((bank as u16) << 14 | place, value));
-        self.step(Numbers::channel_out(0xF0 + bank, map))
+        self.queue_step(StepNumbers::write((bank as u16) << 14 | place, value));
+        self.step(StepNumbers::port_out(0xF0 + bank, map))
     }
 
     /// A value that is often the one already there, or one bit away from it.
-    fn value_over(&mut self, old: u8) -> u8 {
+    fn value_near(&mut self, old: u8) -> u8 {
         match self.rng.below(4) {
             0 => old,
             1 => old ^ 1 << self.rng.below(8),
@@ -123,7 +123,7 @@ impl Generator {
         if !board.good() {
             return self.random_store();
         }
-        let entry = model::table_place(&board.video) + 2 * self.rng.below(256) as usize;
+        let entry = model::table_index(&board.video) + 2 * self.rng.below(256) as usize;
         let pointer = model::read_pointer(u16::from_le_bytes([ram[entry], ram[entry + 1]]));
         // The bytes just before and just behind a line are tried too.
         let any = self.rng.below(92);
@@ -131,7 +131,7 @@ impl Generator {
         let stray = if self.rng.once_in(8) { self.rng.below(8) as usize } else { 0 };
         let place = (pointer.start as usize + 8 * index + stray) % BLOCK;
         let at = pointer.block as usize * BLOCK + place;
-        let value = self.value_over(ram[at]);
+        let value = self.value_near(ram[at]);
         self.store_at(board, at, value)
     }
 
@@ -139,49 +139,49 @@ impl Generator {
         if !board.good() {
             return self.random_store();
         }
-        let at = model::table_place(&board.video) + self.rng.below(512) as usize;
-        let value = self.value_over(ram[at]);
+        let at = model::table_index(&board.video) + self.rng.below(512) as usize;
+        let value = self.value_near(ram[at]);
         self.store_at(board, at, value)
     }
 
     fn random_store(&mut self) -> Call {
         let (address, value) = (self.rng_word(), self.rng.byte());
-        self.step(Numbers::write(address, value))
+        self.step(StepNumbers::write(address, value))
     }
 
     fn keyboard_word(&mut self, ram: &[u8]) -> Call {
         let offset = self.rng.below(16) as u8;
-        let value = self.value_over(ram[3 * BLOCK + 0x3FF0 + offset as usize]);
-        self.step(Numbers::keyboard(offset, value))
+        let value = self.value_near(ram[3 * BLOCK + 0x3FF0 + offset as usize]);
+        self.step(StepNumbers::keyboard(offset, value))
     }
 
     fn data_read(&mut self) -> Call {
         let address = self.rng_word();
-        self.step(Numbers::read(address))
+        self.step(StepNumbers::read(address))
     }
 
     fn fetch(&mut self, board: &Board) -> Call {
         let at = board.boot.at as usize;
-        let stream = match self.rng.below(4) {
+        let boot = match self.rng.below(4) {
             0 => at.min(1_024),
             1 => (at + 1).min(1_024),
             2 => 1_024,
             _ => self.rng.below(1_025) as usize,
         };
-        Call::Step { step: Numbers::fetch(self.rng_word()), ram: self.right_ram(), stream }
+        Call::Step { step: StepNumbers::fetch(self.rng_word()), ram: self.right_ram(), boot }
     }
 
-    fn channel_in(&mut self) -> Call {
+    fn port_in(&mut self) -> Call {
         let any = self.rng.byte();
-        let channel = self.rng.pick(&[0xF4, 0xF8, 0xF8, any, 0xF0 | any & 15, any & 1]);
-        self.step(Numbers::channel_in(channel))
+        let port = self.rng.pick(&[0xF4, 0xF8, 0xF8, any, 0xF0 | any & 15, any & 1]);
+        self.step(StepNumbers::port_in(port))
     }
 
-    fn channel_out(&mut self) -> Call {
+    fn port_out(&mut self) -> Call {
         let (any, value) = (self.rng.byte(), self.rng.byte());
         let top = self.rng.pick(&[value, 0, 1, 255]);
         let table = self.rng.pick(&[0x7F, 0x7F, 0x5B, 0x60, value]);
-        let (channel, value) = match self.rng.below(16) {
+        let (port, value) = match self.rng.below(16) {
             0..=3 => (0xF0 + any % 4, value),
             4..=5 => (0xF4, value),
             6 => (0xF5, table),
@@ -191,21 +191,21 @@ impl Generator {
             13 => (0xF0 | any & 15, value),
             _ => (any, value),
         };
-        self.step(Numbers::channel_out(channel, value))
+        self.step(StepNumbers::port_out(port, value))
     }
 
     fn scans(&mut self) -> Call {
         if self.rng.once_in(20) {
             for _ in 0..self.rng.below(60) {
-                self.queue_step(Numbers::scan());
+                self.queue_step(StepNumbers::scan());
             }
         }
-        self.step(Numbers::scan())
+        self.step(StepNumbers::scan())
     }
 
     fn lines(&mut self) -> Call {
         let on = self.rng.once_in(2);
-        let step = if self.rng.once_in(3) { Numbers::external_line(on) } else { Numbers::disc_line(on) };
+        let step = if self.rng.once_in(3) { StepNumbers::external_line(on) } else { StepNumbers::disc_line(on) };
         self.step(step)
     }
 
@@ -213,21 +213,22 @@ impl Generator {
         Call::Refresh { ram: self.right_ram(), picture: PICTURE }
     }
 
-    fn by_others(&mut self) -> Call {
+    /// What the host or others write between calls.
+    fn overwrite(&mut self) -> Call {
         if self.rng.once_in(2) {
             let at = self.rng.below((self.setup.ram_bytes() + RAM_MARGIN) as u64) as usize;
-            return Call::Poke { at, value: self.rng.byte() };
+            return Call::OverwriteRam { at, value: self.rng.byte() };
         }
         let at = self.rng.below(PICTURE as u64) as usize;
         let len = (self.rng.below(400) as usize).min(PICTURE_ROOM - at);
-        Call::Scribble { at, len, seed: self.rng.word() }
+        Call::OverwritePicture { at, len, seed: self.rng.word() }
     }
 
     pub fn allowed_power_on(&mut self) -> PowerOn {
         let fitting: Vec<u8> = [8, 16, 32].into_iter().filter(|&size| size <= self.setup.blocks).collect();
         let (table, top) = match self.setup.fill {
             Fill::Standard => (0x5B, 0),
-            Fill::Tangle => (0x7F, self.rng.byte()),
+            Fill::Overlap => (0x7F, self.rng.byte()),
             _ => (self.rng.byte(), self.rng.byte()),
         };
         PowerOn {
@@ -261,14 +262,14 @@ impl Generator {
             4 if self.rng.once_in(8) => {
                 Call::FirstDifference { a: PICTURE, b: PICTURE, flips: self.rng.byte() & 3, seed }
             }
-            _ => Call::Reach(self.ask()),
+            _ => Call::Reach(self.access()),
         }
     }
 
-    fn ask(&mut self) -> Ask {
+    fn access(&mut self) -> Access {
         let internal = self.rng.pick(&[8, 16, 32]);
         let any = self.rng.byte();
-        Ask {
+        Access {
             sizes: Sizes { internal, total: self.rng.pick(&[internal, internal + 1, 127, 128, any]) },
             paging: Paging { maps: self.rng.word().to_le_bytes()[..4].try_into().expect("four bytes"), lock: any },
             address: self.rng_word(),
@@ -285,6 +286,6 @@ fn random_setup(rng: &mut Rng) -> Setup {
         _ => 8,
     };
     let fill =
-        rng.pick(&[Fill::Random, Fill::Random, Fill::Standard, Fill::Tangle, Fill::Tangle, Fill::Shared, Fill::Zero]);
+        rng.pick(&[Fill::Random, Fill::Random, Fill::Standard, Fill::Overlap, Fill::Overlap, Fill::Shared, Fill::Zero]);
     Setup { blocks, fill, seed: rng.word() }
 }

@@ -1,8 +1,8 @@
-//! Small domains from end to end: every pointer, every roll, every size, every channel and value.
+//! Small domains from end to end: every pointer, every roll, every size, every port and value.
 
 use super::edges;
-use crate::machine::{Machine, Model, Numbers};
-use crate::model::{self, Ask, PowerOn};
+use crate::machine::{Machine, Model, StepNumbers};
+use crate::model::{self, Access, PowerOn};
 use crate::record::{Board, Lines, Paging, Sizes, BLOCK};
 use crate::reply::Reply;
 
@@ -14,8 +14,8 @@ pub fn sweep(library: &dyn Machine) -> Result<u64, String> {
         bytes_widened,
         sizes,
         reaches,
-        channels,
-        noted_lines,
+        ports,
+        next_dirty_lines,
         edges::damaged_fields,
         edges::lengths,
         edges::numbers,
@@ -82,27 +82,27 @@ fn reaches(library: &dyn Machine) -> Result<u64, String> {
         for bits in 0..=0xFFFFu16 {
             let [map, low] = bits.to_le_bytes();
             let (bank, lock) = (low as u16 & 3, low & 0xF0);
-            let ask = Ask {
+            let access = Access {
                 sizes: Sizes { internal, total },
                 paging: Paging { maps: std::array::from_fn(|at| map ^ (bank as u8 ^ at as u8)), lock },
                 address: bank << 14 | ((low as u16 * 0x41) & 0x3FFF),
             };
-            same(|| format!("reach {ask:?}"), library.reach(&ask), Model.reach(&ask))?;
+            same(|| format!("reach {access:?}"), library.reach(&access), Model.reach(&access))?;
             calls += 1;
         }
     }
     Ok(calls)
 }
 
-/// Every channel and value both ways, from records with each route and disc line.
-fn channels(library: &dyn Machine) -> Result<u64, String> {
+/// Every port and value both ways, from records with each route and disc line.
+fn ports(library: &dyn Machine) -> Result<u64, String> {
     let mut ram = vec![0; 8 * BLOCK];
     let mut calls = 0;
     for (rate, route, line) in [(50, 0, 1), (60, 2, 1), (50, 1, 0)] {
-        let start = odd_board(rate, route, line);
+        let start = board_in_use(rate, route, line);
         for pair in 0..=0xFFFFu16 {
-            let [channel, value] = pair.to_le_bytes();
-            for step in [Numbers::channel_out(channel, value), Numbers::channel_in(channel)] {
+            let [port, value] = pair.to_le_bytes();
+            for step in [StepNumbers::port_out(port, value), StepNumbers::port_in(port)] {
                 let theirs = stepped(library, start, step, &mut ram);
                 let ours = stepped(&Model, start, step, &mut ram);
                 same(|| format!("{step:?} from {start:?}"), theirs, ours)?;
@@ -113,7 +113,7 @@ fn channels(library: &dyn Machine) -> Result<u64, String> {
     Ok(calls)
 }
 
-pub fn odd_board(rate: u8, route: u8, line: u8) -> Board {
+pub fn board_in_use(rate: u8, route: u8, line: u8) -> Board {
     let on = PowerOn { sizes: Sizes { internal: 8, total: 8 }, rate, ..PowerOn::default() };
     let (mut board, _) = model::power_on(&on);
     board.video.control = 0xC0;
@@ -125,18 +125,18 @@ pub fn odd_board(rate: u8, route: u8, line: u8) -> Board {
     board
 }
 
-fn stepped(machine: &dyn Machine, mut board: Board, step: Numbers, ram: &mut [u8]) -> (Reply, Board) {
+fn stepped(machine: &dyn Machine, mut board: Board, step: StepNumbers, ram: &mut [u8]) -> (Reply, Board) {
     let reply = machine.step(&mut board, step, ram, &[]);
     (reply, board)
 }
 
-fn noted_lines(library: &dyn Machine) -> Result<u64, String> {
-    let mut board = odd_board(50, 0, 0);
+fn next_dirty_lines(library: &dyn Machine) -> Result<u64, String> {
+    let mut board = board_in_use(50, 0, 0);
     for line in 0..=255 {
         board.dirty = Lines::single(line);
         for n in (0..260).chain([65_536, u32::MAX]) {
-            let what = || format!("next noted from {n}, line {line} noted");
-            same(what, library.next_noted(&board, n), Model.next_noted(&board, n))?;
+            let what = || format!("next dirty line from {n}, line {line} dirty");
+            same(what, library.next_dirty(&board, n), Model.next_dirty(&board, n))?;
         }
     }
     Ok(256 * 262)

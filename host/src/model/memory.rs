@@ -22,29 +22,29 @@ pub(crate) fn blocks(sizes: Sizes, paging: &Paging, bank: usize) -> (u8, u8) {
     (read, write)
 }
 
-/// The arguments of a reach.
+/// The arguments of a reach: an access under some sizes, maps and lock.
 #[derive(Clone, Copy, PartialEq, Eq, Debug, Default)]
-pub struct Ask {
+pub struct Access {
     pub sizes: Sizes,
     pub paging: Paging,
     pub address: u16,
 }
 
 /// Where a read and a write of an address would land.
-pub fn reach(ask: &Ask) -> Reach {
-    if !ask.sizes.allowed() {
+pub fn reach(access: &Access) -> Reach {
+    if !access.sizes.allowed() {
         return Reach { refusal: BAD_SIZES, ..Reach::default() };
     }
-    let (read, write) = blocks(ask.sizes, &ask.paging, ask.address as usize >> 14);
-    Reach { place: ask.address & 0x3FFF, read, write, refusal: 0 }
+    let (read, write) = blocks(access.sizes, &access.paging, access.address as usize >> 14);
+    Reach { place: access.address & 0x3FFF, read, write, refusal: 0 }
 }
 
 /// The reach list of a run of 9-byte groups, each answered by `answer`.
-pub fn reach_list(input: &[u8], answer: impl Fn(&Ask) -> Reach) -> String {
+pub fn reach_list(input: &[u8], answer: impl Fn(&Access) -> Reach) -> String {
     let mut text = String::from("REACH\n");
     for group in input.chunks(9) {
         let line = match group {
-            &[internal, total, f0, f1, f2, f3, lock, low, high] => answer(&Ask {
+            &[internal, total, f0, f1, f2, f3, lock, low, high] => answer(&Access {
                 sizes: Sizes { internal, total },
                 paging: Paging { maps: [f0, f1, f2, f3], lock },
                 address: u16::from_le_bytes([low, high]),

@@ -5,13 +5,13 @@ use super::{BAD_LENGTH, BAD_RECORD};
 use crate::record::{Board, Lines, Video, BLOCK, ENABLE, LINE_BYTES, PICTURE, REVERSE};
 use crate::reply::Drawn;
 
-/// Where the pointer table starts, counted from the start of the RAM.
-pub(crate) fn table_place(video: &Video) -> usize {
+/// The index of the pointer table in the RAM.
+pub(crate) fn table_index(video: &Video) -> usize {
     (video.table as usize >> 5) * BLOCK + (video.table as usize & 31) * 512
 }
 
 fn table<'a>(video: &Video, ram: &'a [u8]) -> &'a [u8; 512] {
-    let at = table_place(video);
+    let at = table_index(video);
     ram[at..at + 512].try_into().expect("512 bytes")
 }
 
@@ -23,13 +23,13 @@ fn pointer(video: &Video, table: &[u8; 512], line: u8) -> u16 {
 
 /// The shown lines that one altered byte touches, by their pointers before the store:
 /// as one of their 90 bytes, or as part of their pointer.
-pub(crate) fn lines_using(board: &Board, ram: &[u8], block: u8, place: u16) -> Lines {
+pub(crate) fn touched_lines(board: &Board, ram: &[u8], block: u8, place: u16) -> Lines {
     if block > 7 {
         return Lines::default();
     }
     let mut entries = entries_showing(table(&board.video, ram), block, place);
     let at = block as usize * BLOCK + place as usize;
-    let into_table = at.wrapping_sub(table_place(&board.video));
+    let into_table = at.wrapping_sub(table_index(&board.video));
     if into_table < 512 {
         entries = entries.or(&Lines::single((into_table / 2) as u8));
     }
@@ -102,19 +102,19 @@ pub fn draw(board: &Board, ram: &[u8], picture: &mut [u8]) -> Drawn {
     match refusal(board, ram, picture) {
         0 => {
             draw_lines(board, &board.shown(), ram, picture);
-            Drawn { count: 0, floats: board.driven == 0, refusal: 0 }
+            Drawn { count: 0, floating: board.driven == 0, refusal: 0 }
         }
         refusal => Drawn { refusal, ..Drawn::default() },
     }
 }
 
-/// Writes the noted lines, counts them and clears the notes.
+/// Writes the dirty lines and counts them; none is dirty afterwards.
 pub fn refresh(board: &mut Board, ram: &[u8], picture: &mut [u8]) -> Drawn {
     match refusal(board, ram, picture) {
         0 => {
-            let noted = std::mem::take(&mut board.dirty);
-            draw_lines(board, &noted, ram, picture);
-            Drawn { count: noted.count(), floats: board.driven == 0, refusal: 0 }
+            let dirty = std::mem::take(&mut board.dirty);
+            draw_lines(board, &dirty, ram, picture);
+            Drawn { count: dirty.count(), floating: board.driven == 0, refusal: 0 }
         }
         refusal => Drawn { refusal, ..Drawn::default() },
     }

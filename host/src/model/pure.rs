@@ -2,20 +2,20 @@
 
 use super::{BAD_LENGTH, BAD_NUMBER, BAD_RECORD};
 use crate::record::{Board, LINE_BYTES, PICTURE};
-use crate::reply::{Difference, Made, Noted, Pointer};
+use crate::reply::{Difference, MadePointer, NextLine, Pointer};
 
-/// The first noted line at or after n.
-pub fn next_noted(board: &Board, n: u32) -> Noted {
+/// The first dirty line at or after n.
+pub fn next_dirty(board: &Board, n: u32) -> NextLine {
     if !board.good() {
-        return Noted { line: None, refusal: BAD_RECORD };
+        return NextLine { line: None, refusal: BAD_RECORD };
     }
     match u8::try_from(n) {
-        Ok(from) => Noted { line: board.dirty.next_from(from), refusal: 0 },
-        Err(_) => Noted { line: None, refusal: BAD_NUMBER },
+        Ok(from) => NextLine { line: board.dirty.next_from(from), refusal: 0 },
+        Err(_) => NextLine { line: None, refusal: BAD_NUMBER },
     }
 }
 
-/// The first place where two pictures differ, in reading order.
+/// The first position where two pictures differ, in reading order.
 pub fn first_difference(a: &[u8], b: &[u8]) -> Difference {
     if a.len() != PICTURE || b.len() != PICTURE {
         return Difference { at: None, refusal: BAD_LENGTH };
@@ -65,12 +65,12 @@ pub fn widen(line: &[u8], out: &mut [u8]) -> u8 {
 }
 
 /// The pointer word of a block and a start.
-pub fn make_pointer(block: u32, start: u32) -> Made {
+pub fn make_pointer(block: u32, start: u32) -> MadePointer {
     if block > 7 || start > 16_383 || start & 8 != 0 {
-        return Made { word: 0, refusal: BAD_NUMBER };
+        return MadePointer { word: 0, refusal: BAD_NUMBER };
     }
     let word = block << 13 | start >> 4 << 3 | start & 7;
-    Made { word: word as u16, refusal: 0 }
+    MadePointer { word: word as u16, refusal: 0 }
 }
 
 /// The block and start a pointer word names.

@@ -1,4 +1,4 @@
-//! The bench cases, the refusals in their order, and the notes.
+//! The bench cases, the refusals in their order, and the dirty lines.
 
 use super::*;
 use crate::record::{Lines, BLOCK, PICTURE};
@@ -19,7 +19,7 @@ fn board(rate: u8) -> (Board, Vec<u8>) {
 
 fn landing(internal: u8, total: u8, maps: [u8; 4], lock: u8, address: u16) -> (u8, u8, u16) {
     let Reach { place, read, write, refusal } =
-        reach(&Ask { sizes: Sizes { internal, total }, paging: Paging { maps, lock }, address });
+        reach(&Access { sizes: Sizes { internal, total }, paging: Paging { maps, lock }, address });
     assert_eq!(refusal, 0);
     (read, write, place)
 }
@@ -56,7 +56,7 @@ fn p6_and_p7_pointers() {
         assert_eq!(make_pointer(block as u32, start as u32).word, word);
     }
     for (block, start) in [(8, 0), (0, 16_384), (0, 8), (u32::MAX, u32::MAX)] {
-        assert_eq!(make_pointer(block, start), crate::reply::Made { word: 0, refusal: 3 });
+        assert_eq!(make_pointer(block, start), crate::reply::MadePointer { word: 0, refusal: 3 });
     }
 }
 
@@ -81,7 +81,7 @@ fn p8_a_line_wraps_in_its_block() {
 fn p9_and_p10_table_and_entry() {
     let (mut board, mut ram) = board(50);
     board.video = Video { table: 0x99, top: 0xFF, control: 0x40 };
-    assert_eq!(table_place(&board.video), 4 * BLOCK + 0x3200);
+    assert_eq!(table_index(&board.video), 4 * BLOCK + 0x3200);
     board.dirty = Lines::default();
     board.paging.maps[0] = 0x84;
     step(&mut board, Step::Write { address: 0x3200, value: 1 }, &mut ram, &[]);
@@ -92,7 +92,7 @@ fn p9_and_p10_table_and_entry() {
 fn p11_counter() {
     let (mut board, mut ram) = board(50);
     board.clock.counter = 3;
-    let mut read = |channel| step(&mut board, Step::In { channel }, &mut ram, &[]);
+    let mut read = |port| step(&mut board, Step::In { port }, &mut ram, &[]);
     let seen = [read(0xF8), read(0xF4), read(0xF4)].map(|answer| (answer.byte, answer.int));
     assert_eq!(seen, [(0x53, true), (0x53, false), (0x50, false)]);
 }
@@ -153,9 +153,9 @@ fn refusals_in_order() {
     boot.boot = Boot { mode: 1, at: 5 };
     boot.external = 1;
     let long = [0; 1_025];
-    let mut refusal = |mut board: Board, numbers: (u32, u32, u32), ram_len: usize, stream: &[u8]| {
+    let mut refusal = |mut board: Board, numbers: (u32, u32, u32), ram_len: usize, boot: &[u8]| {
         let before = board;
-        let answer = step_numbers(&mut board, numbers.0, numbers.1, numbers.2, &mut ram[..ram_len], stream);
+        let answer = step_numbers(&mut board, numbers.0, numbers.1, numbers.2, &mut ram[..ram_len], boot);
         assert_eq!(board, before);
         (answer.refusal, answer.int)
     };
@@ -171,32 +171,32 @@ fn refusals_in_order() {
     assert_eq!(refusal(good, (8, 0, 2), all, &[]), (3, false));
     assert_eq!(power_on(&on(8, 7, 50)).1.refusal, 6);
     assert_eq!(power_on(&on(8, 8, 51)), (Board::default(), Answer { refusal: 6, ..Answer::default() }));
-    assert_eq!(next_noted(&bad, 256).refusal, 1);
-    assert_eq!(next_noted(&good, 256).refusal, 3);
+    assert_eq!(next_dirty(&bad, 256).refusal, 1);
+    assert_eq!(next_dirty(&good, 256).refusal, 3);
 }
 
 #[test]
 fn nmi_is_shown_once() {
     let (mut board, mut ram) = board(50);
     let mut make = |next| step(&mut board, next, &mut ram, &[]);
-    make(Step::Out { channel: 0xF8, value: 2 });
+    make(Step::Out { port: 0xF8, value: 2 });
     let lines = |answer: Answer| (answer.int, answer.nmi);
     assert_eq!(lines(make(Step::DiscLine { on: true })), (false, true));
     assert_eq!(lines(make(Step::Scan)), (false, false));
-    assert_eq!(lines(make(Step::Out { channel: 0xF8, value: 0x12 })), (false, true));
-    assert_eq!(lines(make(Step::Out { channel: 0xF8, value: 3 })), (true, false));
+    assert_eq!(lines(make(Step::Out { port: 0xF8, value: 0x12 })), (false, true));
+    assert_eq!(lines(make(Step::Out { port: 0xF8, value: 3 })), (true, false));
 }
 
-/// Notes by the rule as it is written, each line compared before and after.
+/// Dirty lines by the rule as it is written, each line compared before and after.
 #[test]
-fn stores_note_what_the_rule_says() {
+fn stores_make_dirty_what_the_rule_says() {
     let (mut board, mut ram) = board(60);
     board.video = Video { table: 0x7F, top: 0xF0, control: 0x40 };
     for (index, byte) in ram.iter_mut().enumerate() {
         *byte = (index * 7 + index / 256) as u8 & 0x6F;
     }
-    let places = |board: &Board, ram: &[u8], line: u8| -> (u16, Vec<usize>) {
-        let entry = table_place(&board.video) + 2 * board.video.top.wrapping_add(line) as usize;
+    let bytes_of = |board: &Board, ram: &[u8], line: u8| -> (u16, Vec<usize>) {
+        let entry = table_index(&board.video) + 2 * board.video.top.wrapping_add(line) as usize;
         let word = u16::from_le_bytes([ram[entry], ram[entry + 1]]);
         let Pointer { block, start } = read_pointer(word);
         (word, (0..90).map(|i| block as usize * BLOCK + (start as usize + 8 * i) % BLOCK).collect())
@@ -210,8 +210,8 @@ fn stores_note_what_the_rule_says() {
         };
         step(&mut board, next, &mut ram, &[]);
         for line in 0..=255 {
-            let (word, bytes) = places(&before, &before_ram, line);
-            let differs = word != places(&before, &ram, line).0 || bytes.iter().any(|&at| ram[at] != before_ram[at]);
+            let (word, bytes) = bytes_of(&before, &before_ram, line);
+            let differs = word != bytes_of(&before, &ram, line).0 || bytes.iter().any(|&at| ram[at] != before_ram[at]);
             assert_eq!(board.dirty.has(line), line < 200 && differs, "line {line} after {next:?}");
         }
     }

@@ -4,28 +4,27 @@
 use super::args::Args;
 use super::out;
 use super::timing::{black_box, keep, nanoseconds};
-use joyce::machine::{Machine, Model, Numbers};
-use joyce::model::{Ask, PowerOn};
-use joyce::model_c::MODEL;
+use joyce::machine::{Machine, Model, StepNumbers};
+use joyce::model::{Access, PowerOn};
+use joyce::model_c::C_MODEL;
 use joyce::record::{Board, Lines, Paging, Sizes, BLOCK, PICTURE};
 use std::cell::{Cell, RefCell};
 use std::time::{Duration, Instant};
 
-type Outcome = Result<(), String>;
 /// The library's nanoseconds.
 type Timed = Result<f64, String>;
 
 /// A board with its memory, ready to be stepped.
 #[derive(Clone)]
-struct Bed {
+struct Fixture {
     board: Board,
     ram: Vec<u8>,
     picture: Vec<u8>,
-    stream: Vec<u8>,
+    boot: Vec<u8>,
 }
 
-/// A board with the standard screen, out of boot mode, video on, nothing noted.
-fn bed(total: u8) -> Bed {
+/// A board with the standard screen, out of boot mode, video on, no line dirty.
+fn fixture(total: u8) -> Fixture {
     let on = PowerOn {
         sizes: Sizes { internal: 8, total },
         rate: 50,
@@ -38,15 +37,15 @@ fn bed(total: u8) -> Bed {
     for entry in 0..256u32 {
         let at = 0x1930 + entry / 8 * 720;
         let word = Model.make_pointer(1 + at / BLOCK as u32, at % BLOCK as u32 + entry % 8).value();
-        let place = 2 * BLOCK + 0x3600 + 2 * entry as usize;
-        ram[place..place + 2].copy_from_slice(&word.to_le_bytes());
+        let index = 2 * BLOCK + 0x3600 + 2 * entry as usize;
+        ram[index..index + 2].copy_from_slice(&word.to_le_bytes());
     }
-    let mut bed = Bed { board: Board::default(), ram, picture: vec![0; PICTURE], stream: vec![0x5A; 1_024] };
-    Model.power_on(&mut bed.board, &on);
-    bed.board.boot.mode = 0;
-    bed.board.video.control = 0x40;
-    bed.board.dirty = Lines::default();
-    bed
+    let mut fixture = Fixture { board: Board::default(), ram, picture: vec![0; PICTURE], boot: vec![0x5A; 1_024] };
+    Model.power_on(&mut fixture.board, &on);
+    fixture.board.boot.mode = 0;
+    fixture.board.video.control = 0x40;
+    fixture.board.dirty = Lines::default();
+    fixture
 }
 
 /// How often the whole table is gone through. What else the machine does for a while meets a row once or twice, not every time.
@@ -65,7 +64,7 @@ struct Bench<'m> {
 
 impl Bench<'_> {
     /// Writes a line in the last pass.
-    fn line(&self, text: &str) -> Outcome {
+    fn line(&self, text: &str) -> Result<(), String> {
         if self.last.get() {
             out::line(text)
         } else {
@@ -85,18 +84,18 @@ impl Bench<'_> {
         best[row]
     }
 
-    /// Times the work on each machine from a copy of the same bed.
-    fn row(&self, name: &str, bed: &Bed, work: impl Fn(&dyn Machine, &mut Bed, u64)) -> Timed {
-        let machines: [&dyn Machine; 3] = [self.library, &MODEL, &Model];
-        let mut beds = [bed.clone(), bed.clone(), bed.clone()];
+    /// Times the work on each machine from a copy of the same fixture.
+    fn row(&self, name: &str, fixture: &Fixture, work: impl Fn(&dyn Machine, &mut Fixture, u64)) -> Timed {
+        let machines: [&dyn Machine; 3] = [self.library, &C_MODEL, &Model];
+        let mut fixtures = [fixture.clone(), fixture.clone(), fixture.clone()];
         let mut turns = [0; 3];
         let [library, model, inlined] = self.best(nanoseconds(self.budget, |which, calls| {
-            let (machine, bed) = (black_box(machines[which]), &mut beds[which]);
+            let (machine, fixture) = (black_box(machines[which]), &mut fixtures[which]);
             let first = turns[which] + 1;
             turns[which] += calls;
             let start = Instant::now();
             for turn in first..first + calls {
-                work(machine, bed, turn);
+                work(machine, fixture, turn);
             }
             start.elapsed()
         }));
@@ -105,10 +104,10 @@ impl Bench<'_> {
     }
 
     /// Times one step, made over and over; `step` may depend on the turn.
-    fn step(&self, name: &str, bed: &Bed, step: impl Fn(u64) -> Numbers) -> Timed {
-        self.row(name, bed, |machine, bed, turn| {
+    fn step(&self, name: &str, fixture: &Fixture, step: impl Fn(u64) -> StepNumbers) -> Timed {
+        self.row(name, fixture, |machine, fixture, turn| {
             let step = black_box(step(turn));
-            keep(machine.step(&mut bed.board, step, &mut bed.ram, &bed.stream));
+            keep(machine.step(&mut fixture.board, step, &mut fixture.ram, &fixture.boot));
         })
     }
 }
@@ -131,7 +130,7 @@ pub fn run(library: &dyn Machine, arguments: &[String]) -> Result<(), String> {
     Ok(())
 }
 
-fn table(bench: &Bench) -> Outcome {
+fn table(bench: &Bench) -> Result<(), String> {
     bench.line(&format!(
         "{:<44}{:>11}{:>11}{:>8}{:>11}",
         "nanoseconds a call", "library", "model", "ratio", "inlined"
@@ -143,95 +142,97 @@ fn table(bench: &Bench) -> Outcome {
     growth(bench)
 }
 
-fn steps(bench: &Bench) -> Outcome {
-    let bed = bed(8);
-    let mut booting = bed.clone();
+fn steps(bench: &Bench) -> Result<(), String> {
+    let fixture = fixture(8);
+    let mut booting = fixture.clone();
     booting.board.boot.mode = 1;
-    bench.row("fetch from the stream", &booting, |machine, bed, _| {
-        bed.board.boot.at = 7;
-        keep(machine.step(&mut bed.board, Numbers::fetch(0), &mut bed.ram, &bed.stream));
+    bench.row("fetch from the boot stream", &booting, |machine, fixture, _| {
+        fixture.board.boot.at = 7;
+        keep(machine.step(&mut fixture.board, StepNumbers::fetch(0), &mut fixture.ram, &fixture.boot));
     })?;
-    bench.step("fetch from RAM", &bed, |turn| Numbers::fetch(turn as u16))?;
-    bench.step("data read", &bed, |turn| Numbers::read(turn as u16))?;
-    bench.step("channel in F8", &bed, |_| Numbers::channel_in(0xF8))?;
-    bench.step("channel in F4", &bed, |_| Numbers::channel_in(0xF4))?;
-    bench.step("channel in, passed on", &bed, |_| Numbers::channel_in(0x01))?;
-    bench.step("channel out F0", &bed, |turn| Numbers::channel_out(0xF0, turn as u8))?;
-    bench.step("channel out F6, notes every line", &bed, |turn| Numbers::channel_out(0xF6, turn as u8))?;
-    bench.step("channel out F8", &bed, |turn| Numbers::channel_out(0xF8, turn as u8 & 15))?;
-    bench.step("scan", &bed, |_| Numbers::scan())?;
-    bench.step("disc line", &bed, |turn| Numbers::disc_line(turn & 1 == 1))?;
-    bench.step("external line", &bed, |turn| Numbers::external_line(turn & 1 == 1))?;
-    bench.step("refused with 5", &bed, |_| Numbers::channel_in(0xF9))?;
+    bench.step("fetch from RAM", &fixture, |turn| StepNumbers::fetch(turn as u16))?;
+    bench.step("data read", &fixture, |turn| StepNumbers::read(turn as u16))?;
+    bench.step("port in F8", &fixture, |_| StepNumbers::port_in(0xF8))?;
+    bench.step("port in F4", &fixture, |_| StepNumbers::port_in(0xF4))?;
+    bench.step("port in, forwarded", &fixture, |_| StepNumbers::port_in(0x01))?;
+    bench.step("port out F0", &fixture, |turn| StepNumbers::port_out(0xF0, turn as u8))?;
+    bench.step("port out F6, makes every line dirty", &fixture, |turn| StepNumbers::port_out(0xF6, turn as u8))?;
+    bench.step("port out F8", &fixture, |turn| StepNumbers::port_out(0xF8, turn as u8 & 15))?;
+    bench.step("scan", &fixture, |_| StepNumbers::scan())?;
+    bench.step("disc line", &fixture, |turn| StepNumbers::disc_line(turn & 1 == 1))?;
+    bench.step("external line", &fixture, |turn| StepNumbers::external_line(turn & 1 == 1))?;
+    bench.step("refused with 5", &fixture, |_| StepNumbers::port_in(0xF9))?;
     Ok(())
 }
 
-fn stores(bench: &Bench) -> Outcome {
-    let bed = bed(16);
-    let unaltered = bed.ram[BLOCK + 0x1930];
-    bench.step("data write, alters nothing", &bed, |_| Numbers::write(0x5930, unaltered))?;
-    bench.step("data write, alters a shown byte", &bed, |turn| Numbers::write(0x5930, turn as u8))?;
-    bench.step("data write, alters a byte no line shows", &bed, |turn| Numbers::write(0x0000, turn as u8))?;
-    bench.step("data write, alters a byte past block 7", &bed, |turn| Numbers::write(0xC000, turn as u8))?;
-    bench.step("data write, alters a pointer", &bed, |turn| Numbers::write(0xB600, turn as u8))?;
-    bench.step("keyboard word, altered", &bed, |turn| Numbers::keyboard(0, turn as u8))?;
+fn stores(bench: &Bench) -> Result<(), String> {
+    let fixture = fixture(16);
+    let unaltered = fixture.ram[BLOCK + 0x1930];
+    bench.step("data write, alters nothing", &fixture, |_| StepNumbers::write(0x5930, unaltered))?;
+    bench.step("data write, alters a shown byte", &fixture, |turn| StepNumbers::write(0x5930, turn as u8))?;
+    bench.step("data write, alters a byte no line shows", &fixture, |turn| StepNumbers::write(0x0000, turn as u8))?;
+    bench.step("data write, alters a byte past block 7", &fixture, |turn| StepNumbers::write(0xC000, turn as u8))?;
+    bench.step("data write, alters a pointer", &fixture, |turn| StepNumbers::write(0xB600, turn as u8))?;
+    bench.step("keyboard word, altered", &fixture, |turn| StepNumbers::keyboard(0, turn as u8))?;
     Ok(())
 }
 
-fn pictures(bench: &Bench) -> Outcome {
-    let bed = bed(8);
-    let full = bench.row("draw", &bed, |machine, bed, _| {
-        keep(machine.draw(&bed.board, &bed.ram, &mut bed.picture));
+fn pictures(bench: &Bench) -> Result<(), String> {
+    let fixture = fixture(8);
+    let full = bench.row("draw", &fixture, |machine, fixture, _| {
+        keep(machine.draw(&fixture.board, &fixture.ram, &mut fixture.picture));
     })?;
-    for noted in [0, 1, 16, 256] {
-        let lines = if noted == 1 { "line" } else { "lines" };
-        let time = bench.row(&format!("refresh, {noted} {lines} noted"), &bed, |machine, bed, _| {
-            bed.board.dirty = Lines::first(black_box(noted));
-            keep(machine.refresh(&mut bed.board, &bed.ram, &mut bed.picture));
+    for dirty in [0, 1, 16, 256] {
+        let lines = if dirty == 1 { "line" } else { "lines" };
+        let time = bench.row(&format!("refresh, {dirty} {lines} dirty"), &fixture, |machine, fixture, _| {
+            fixture.board.dirty = Lines::first(black_box(dirty));
+            keep(machine.refresh(&mut fixture.board, &fixture.ram, &mut fixture.picture));
         })?;
         bench.line(&format!("    of the library's full draw: {:.1} %", 100.0 * time / full))?;
     }
-    let mut far = bed.clone();
+    let mut far = fixture.clone();
     far.board.dirty = Lines::single(255);
-    bench.row("next noted, the last line", &far, |machine, bed, _| {
-        keep(machine.next_noted(&bed.board, black_box(0)));
+    bench.row("next dirty line, the last", &far, |machine, fixture, _| {
+        keep(machine.next_dirty(&fixture.board, black_box(0)));
     })?;
-    let other = bed.picture.clone();
-    bench.row("first difference, equal pictures", &bed, |machine, bed, _| {
-        keep(machine.first_difference(&bed.picture, black_box(&other)));
+    let other = fixture.picture.clone();
+    bench.row("first difference, equal pictures", &fixture, |machine, fixture, _| {
+        keep(machine.first_difference(&fixture.picture, black_box(&other)));
     })?;
-    bench.row("widen", &bed, |machine, bed, _| {
-        let (line, out) = bed.picture.split_at_mut(90);
+    bench.row("widen", &fixture, |machine, fixture, _| {
+        let (line, out) = fixture.picture.split_at_mut(90);
         keep(machine.widen(line, &mut out[..180]));
     })?;
     Ok(())
 }
 
-fn numbers(bench: &Bench) -> Outcome {
-    let bed = bed(8);
+fn numbers(bench: &Bench) -> Result<(), String> {
+    let fixture = fixture(8);
     let on = PowerOn { sizes: Sizes { internal: 8, total: 8 }, rate: 50, ..PowerOn::default() };
-    bench.row("power-on", &bed, |machine, bed, _| keep(machine.power_on(&mut bed.board, black_box(&on))))?;
-    bench.row("make pointer", &bed, |machine, _, turn| keep(machine.make_pointer(turn as u32 & 7, 16)))?;
-    bench.row("read pointer", &bed, |machine, _, turn| keep(machine.read_pointer(turn as u16)))?;
-    bench.row("roll", &bed, |machine, _, turn| keep(machine.roll(turn as u8, 7)))?;
-    let ask = Ask { sizes: on.sizes, paging: Paging { maps: [0x25; 4], lock: 0x10 }, address: 0 };
-    bench.row("reach", &bed, |machine, _, turn| keep(machine.reach(&Ask { address: turn as u16, ..ask })))?;
+    bench
+        .row("power-on", &fixture, |machine, fixture, _| keep(machine.power_on(&mut fixture.board, black_box(&on))))?;
+    bench.row("make pointer", &fixture, |machine, _, turn| keep(machine.make_pointer(turn as u32 & 7, 16)))?;
+    bench.row("read pointer", &fixture, |machine, _, turn| keep(machine.read_pointer(turn as u16)))?;
+    bench.row("roll", &fixture, |machine, _, turn| keep(machine.roll(turn as u8, 7)))?;
+    let access = Access { sizes: on.sizes, paging: Paging { maps: [0x25; 4], lock: 0x10 }, address: 0 };
+    bench.row("reach", &fixture, |machine, _, turn| keep(machine.reach(&Access { address: turn as u16, ..access })))?;
     Ok(())
 }
 
 /// No operation may take longer because there is more RAM.
-fn growth(bench: &Bench) -> Outcome {
+fn growth(bench: &Bench) -> Result<(), String> {
     for total in [8, 32, 128] {
-        let bed = bed(total);
+        let fixture = fixture(total);
         let name = |what: &str| format!("{what}, {total} blocks");
-        bench.step(&name("data read"), &bed, |turn| Numbers::read(turn as u16))?;
-        bench.step(&name("data write, alters a shown byte"), &bed, |turn| Numbers::write(0x5930, turn as u8))?;
-        bench.row(&name("draw"), &bed, |machine, bed, _| {
-            keep(machine.draw(&bed.board, &bed.ram, &mut bed.picture));
+        bench.step(&name("data read"), &fixture, |turn| StepNumbers::read(turn as u16))?;
+        bench
+            .step(&name("data write, alters a shown byte"), &fixture, |turn| StepNumbers::write(0x5930, turn as u8))?;
+        bench.row(&name("draw"), &fixture, |machine, fixture, _| {
+            keep(machine.draw(&fixture.board, &fixture.ram, &mut fixture.picture));
         })?;
-        bench.row(&name("refresh, 16 lines noted"), &bed, |machine, bed, _| {
-            bed.board.dirty = Lines::first(black_box(16));
-            keep(machine.refresh(&mut bed.board, &bed.ram, &mut bed.picture));
+        bench.row(&name("refresh, 16 lines dirty"), &fixture, |machine, fixture, _| {
+            fixture.board.dirty = Lines::first(black_box(16));
+            keep(machine.refresh(&mut fixture.board, &fixture.ram, &mut fixture.picture));
         })?;
     }
     Ok(())

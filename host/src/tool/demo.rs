@@ -3,7 +3,7 @@
 use super::args::Args;
 use super::screen::Screen;
 use super::{files, ledger, out, pbm, preview};
-use joyce::machine::{Machine, Numbers};
+use joyce::machine::{Machine, StepNumbers};
 use joyce::record::{LINE_BYTES, PICTURE};
 use joyce::reply::Drawn;
 
@@ -19,8 +19,8 @@ pub fn run(machine: &dyn Machine, arguments: &[String]) -> Result<(), String> {
     report(&mut screen, "the page is put up")?;
     enter_line(&mut screen)?;
     report(&mut screen, "the clerk enters a line")?;
-    mark_cell(&mut screen)?;
-    report(&mut screen, "one cell is marked")?;
+    invert_cell(&mut screen)?;
+    report(&mut screen, "one cell is inverted")?;
     let ticks = scan_frames(&mut screen, 50)?;
     report(&mut screen, &format!("50 frames are scanned, {ticks} ticks counted"))?;
     let roll = roll_up(&mut screen)?;
@@ -43,7 +43,7 @@ fn enter_line(screen: &mut Screen) -> Result<(), String> {
     screen.row(row, &text)
 }
 
-fn mark_cell(screen: &mut Screen) -> Result<(), String> {
+fn invert_cell(screen: &mut Screen) -> Result<(), String> {
     let (row, text) = ledger::entered();
     let end = text.len();
     screen.cell(row, end, ' ', true)
@@ -54,9 +54,9 @@ fn scan_frames(screen: &mut Screen, frames: u32) -> Result<u32, String> {
     let mut ticks = 0;
     for _ in 0..frames {
         for _ in 0..FRAME {
-            screen.step(Numbers::scan())?;
+            screen.step(StepNumbers::scan())?;
         }
-        ticks += (screen.step(Numbers::channel_in(0xF4))?.byte & 15) as u32;
+        ticks += (screen.step(StepNumbers::port_in(0xF4))?.byte & 15) as u32;
     }
     Ok(ticks)
 }
@@ -66,7 +66,7 @@ fn roll_up(screen: &mut Screen) -> Result<i8, String> {
     screen.row(0, "")?;
     let old = screen.board.video.top;
     let new = old.wrapping_add(8);
-    screen.step(Numbers::channel_out(0xF6, new))?;
+    screen.step(StepNumbers::port_out(0xF6, new))?;
     Ok(screen.machine.roll(old, new))
 }
 
@@ -77,9 +77,9 @@ fn same_again(screen: &mut Screen) -> Result<(), String> {
 }
 
 fn report(screen: &mut Screen, what: &str) -> Result<(), String> {
-    let Drawn { count, floats, .. } = screen.refresh()?;
+    let Drawn { count, floating, .. } = screen.refresh()?;
     let sent = count as usize * LINE_BYTES;
-    let aside = if floats { " (the video floats)" } else { "" };
+    let aside = if floating { " (the video is floating)" } else { "" };
     let saved = PICTURE - sent;
     out::line(&format!("{what}: {count} lines, {sent} bytes down the cable, {saved} saved of {PICTURE}{aside}"))
 }

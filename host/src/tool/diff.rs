@@ -1,4 +1,4 @@
-//! `joyce diff`: the first place where two pictures differ.
+//! `joyce diff`: where two pictures differ first.
 
 use super::args::Args;
 use super::{files, out, pbm};

@@ -7,14 +7,14 @@ pub fn read(path: &str) -> Result<Vec<u8>, String> {
     fs::read(path).map_err(|error| format!("{path}: {error}"))
 }
 
-/// Writes beside the file first and then moves it into place. What is no file, as a device, stays; a link is followed.
+/// Writes a file beside the one named and then renames it. What is no file, as a device, stays; a link is followed.
 pub fn write(path: &str, bytes: &[u8]) -> Result<(), String> {
     if matches!(fs::metadata(path), Ok(found) if !found.is_file()) {
         return Err(format!("{path}: not a regular file"));
     }
-    let place = fs::canonicalize(path).unwrap_or_else(|_| PathBuf::from(path));
-    let beside = beside(&place).ok_or(format!("{path}: not a file name"))?;
-    let written = fs::write(&beside, bytes).and_then(|()| fs::rename(&beside, &place));
+    let target = fs::canonicalize(path).unwrap_or_else(|_| PathBuf::from(path));
+    let beside = beside(&target).ok_or(format!("{path}: not a file name"))?;
+    let written = fs::write(&beside, bytes).and_then(|()| fs::rename(&beside, &target));
     written.map_err(|error| {
         // The file may not have come into being at all; there is nothing more to say then.
         let _ = fs::remove_file(&beside);

@@ -31,7 +31,7 @@ pub fn decode(bytes: &[u8]) -> Result<Vec<u8>, String> {
     Ok(pixels.to_vec())
 }
 
-/// The number at or after a place, over white space and comments, and the place behind it.
+/// The number at or after an index, behind white space and comments, and the index behind it.
 fn number(bytes: &[u8], mut at: usize) -> Result<(u32, usize), String> {
     while let Some(&byte) = bytes.get(at) {
         match byte {

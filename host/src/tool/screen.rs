@@ -5,10 +5,10 @@
 //! over the end of block 1 starts at block 2 instead.
 
 use super::font::Font;
-use joyce::machine::{Machine, Numbers};
+use joyce::machine::{Machine, StepNumbers};
 use joyce::model::PowerOn;
 use joyce::record::{Board, Sizes, BLOCK, PICTURE};
-use joyce::reply::{Answer, Drawn, Made};
+use joyce::reply::{Answer, Drawn, MadePointer};
 
 pub const COLUMNS: usize = 90;
 pub const ROWS: usize = 32;
@@ -56,13 +56,13 @@ impl<'m> Screen<'m> {
         }
         let ram = vec![0; 16 * BLOCK];
         let mut screen = Screen { machine, font: Font::new(), board, ram, picture: vec![0; PICTURE], steps: 0 };
-        screen.step(Numbers::channel_out(0xF8, 0))?;
+        screen.step(StepNumbers::port_out(0xF8, 0))?;
         screen.lay_table()?;
-        screen.step(Numbers::channel_out(0xF7, 0x40))?;
+        screen.step(StepNumbers::port_out(0xF7, 0x40))?;
         Ok(screen)
     }
 
-    pub fn step(&mut self, step: Numbers) -> Result<Answer, String> {
+    pub fn step(&mut self, step: StepNumbers) -> Result<Answer, String> {
         let answer = Answer::from(self.machine.step(&mut self.board, step, &mut self.ram, &[]));
         self.steps += 1;
         match answer.refusal {
@@ -74,25 +74,25 @@ impl<'m> Screen<'m> {
     fn lay_table(&mut self) -> Result<(), String> {
         for line in 0..256u16 {
             let (block, start) = row_place(line as usize / 8);
-            let made = Made::from(self.machine.make_pointer(block, start + line as u32 % 8));
+            let made = MadePointer::from(self.machine.make_pointer(block, start + line as u32 % 8));
             if made.refusal != 0 {
                 return Err(format!("pointer of line {line} refused with {}", made.refusal));
             }
             let [low, high] = made.word.to_le_bytes();
-            self.step(Numbers::write(TABLE_ADDRESS + 2 * line, low))?;
-            self.step(Numbers::write(TABLE_ADDRESS + 2 * line + 1, high))?;
+            self.step(StepNumbers::write(TABLE_ADDRESS + 2 * line, low))?;
+            self.step(StepNumbers::write(TABLE_ADDRESS + 2 * line + 1, high))?;
         }
         Ok(())
     }
 
-    /// Writes the eight bytes of a cell, inverted if it is marked.
-    pub fn cell(&mut self, row: usize, column: usize, character: char, marked: bool) -> Result<(), String> {
+    /// Writes the eight bytes of a cell, every bit inverted on demand.
+    pub fn cell(&mut self, row: usize, column: usize, character: char, inverted: bool) -> Result<(), String> {
         let (block, place) = row_place(row);
         let address = block * BLOCK as u32 + place + 8 * column as u32;
         let glyph = self.font.glyph(character);
         for (line, bits) in glyph.into_iter().enumerate() {
-            let value = if marked { !bits } else { bits };
-            self.step(Numbers::write(address as u16 + line as u16, value))?;
+            let value = if inverted { !bits } else { bits };
+            self.step(StepNumbers::write(address as u16 + line as u16, value))?;
         }
         Ok(())
     }

@@ -1,3 +1,3 @@
-//! The C interface over the model. Not the proved library: it only has its face.
+//! The C interface over the model. Not the proved library: it only has the same functions.
 
-pub use joyce::model_c::*;
+pub use host::model_c::*;

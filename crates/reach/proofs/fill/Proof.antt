@@ -3,13 +3,14 @@ use Prim.Native.Nat.{_≤_, _-_}
 use mathlib.Core.Path.{_≡_, refl, ap, _∙_}
 use native.Mathlib.Omega.{arith}
 use lib.ListN.{length}
-use Rattle.reach.specs.Text.{textOf, groups, reachText, over, lineAt}
-use Rattle.reach.proofs.Laws.{room, next-length, next-out, over-nothing, over-length, text-length}
+use Rattle.facts.specs.Lists.{inRoom}
+use Rattle.reach.specs.Text.{textOf, groups, reachText, lineAt}
+use Rattle.reach.proofs.Laws.{room, next-length, next-out, room-nothing, room-length, text-length}
 use Rattle.reach.proofs.fill.Statement.{statement}
 use Rattle.reach.proofs.fill.Tie as tie
 
 abbrev Inv-loop : tie.InvT-loop
-Inv-loop input out₀ n to₀ k₀ out to k = (k ≤ n) × (to ≡ length (textOf input k)) × (out ≡ over (textOf input k) out₀)
+Inv-loop input out₀ n to₀ k₀ out to k = (k ≤ n) × (to ≡ length (textOf input k)) × (out ≡ inRoom (textOf input k) out₀)
 
 abbrev μ-loop : tie.MeasureT-loop
 μ-loop input out₀ n to₀ k₀ out to k = n - k
@@ -19,7 +20,7 @@ count-requires c κs = tt
 
 loop-holds : tie.Need-loop-holds Inv-loop μ-loop
 unfolding textOf
-loop-holds c = (omega arith, refl, over-nothing (c .before .before .before .args .out .now))
+loop-holds c = (omega arith, refl, room-nothing (c .before .before .before .args .out .now))
 
 mul-put-line : tie.Need-mul-put-line Inv-loop μ-loop
 unfolding groups
@@ -53,7 +54,7 @@ same-length : tie.Need-same-length Inv-loop μ-loop
 same-length c =
     let a = c .before .before .before .before .before .args in
     let i = c .before .loop in
-    ap length (i .inv .2) ∙ over-length (textOf (a .input .now) (i .k)) (a .out .now) (omega (arith, text-length (a .input .now) (i .k)))
+    ap length (i .inv .2) ∙ room-length (textOf (a .input .now) (i .k)) (a .out .now) (omega (arith, text-length (a .input .now) (i .k)))
 
 returns : tie.Need-returns Inv-loop μ-loop
 unfolding reachText

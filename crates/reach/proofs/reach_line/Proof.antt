@@ -1,24 +1,21 @@
 -- `reach_line` meets its contract: what its callees ensure, put into reachLine.
-use Rattle.reach.specs.Text.{reachLine, hex2, hex4}
+use mathlib.Core.Path.{ap}
 use lib.Dec.{lit≤}
+use Rattle.paging.specs.declared.Reach.{Reach}
+use Rattle.paging.specs.Memory.{reachOf}
+use Rattle.reach.specs.Text.{reachLine, hex2, hex4}
 use borrow.Author.Needs.{needs}
 use Rattle.reach.proofs.reach_line.Statement.{statement}
 use Rattle.reach.proofs.reach_line.Tie as tie
 
-read-block-requires : tie.Need-read-block-requires
-read-block-requires c κs = search needs
+reach-requires : tie.Need-reach-requires
+reach-requires c κs = search needs
 
 cast-r : tie.Need-cast-r
 cast-r c = search needs
 
-write-block-requires : tie.Need-write-block-requires
-write-block-requires c κs = search needs
-
 cast-w : tie.Need-cast-w
 cast-w c = search needs
-
-place-requires : tie.Need-place-requires
-place-requires c κs = search needs
 
 digit-requires : tie.Need-digit-requires
 digit-requires c κs = search needs
@@ -45,18 +42,18 @@ digit-requires-8 : tie.Need-digit-requires-8
 digit-requires-8 c κs = search needs
 
 returns : tie.Need-returns
-unfolding reachLine hex2 hex4
-returns c = (cc, lit≤ tt)
+unfolding reachOf reachLine hex2 hex4
+returns c =
+    let e = c .before .before .before .before .before .before .before .before .before .before .reach .ensures in
+    (cc (ap (λ (r : Reach). r .read) e, ap (λ (r : Reach). r .write) e, ap (λ (r : Reach). r .place) e), lit≤ tt)
 
 pub reach-line-spec : {M : Type 1} → statement M
 reach-line-spec =
     tie.close
     (tie.spec
-    read-block-requires
+    reach-requires
     cast-r
-    write-block-requires
     cast-w
-    place-requires
     digit-requires
     digit-requires-2
     digit-requires-3

@@ -1,22 +1,15 @@
 -- `lineset::LineSet::contains` meets its contract: the tested bit is that of the definition, and no line over 255 is in a set.
 -- Assumes nothing.
 use borrow.Author.Needs.{needs}
-use Prim.Native.Nat.{ℕ}
 use mathlib.Core.Path.{sym}
 use native.Mathlib.Omega.{arith}
-use lib.ListN.{getD}
-use mir.Val.{Fits}
-use mir.Syntax.{w64}
 use Rattle.lineset.specs.Lines.{member}
-use Rattle.lineset.proofs.Sets.{Words, member-out}
+use Rattle.lineset.proofs.Sets.{Words, member-out, words-of}
 use Rattle.lineset.proofs.LineSet.contains.Statement.{statement}
 use Rattle.lineset.proofs.LineSet.contains.Tie as tie
 
-fits-self : (c : tie.Start) (j : ℕ) → Fits w64 (getD (c .args .t1 .words) j 0)
-fits-self c j = search needs
-
 self-words : (c : tie.Start) → Words (c .args .t1)
-self-words c = record { four = search needs; small = λ j. fits-self c j .fits }
+self-words c = words-of (search needs) (λ j. search needs)
 
 returns : tie.Need-returns
 returns c = sym (member-out (c .before .args .t1) (self-words (c .before)) (c .before .args .line) (omega arith))

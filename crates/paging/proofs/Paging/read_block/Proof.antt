@@ -6,7 +6,7 @@ use lib.ListN.{getD}
 use borrow.Author.Needs.{needs}
 use native.Mathlib.Omega.{arith}
 use Rattle.paging.specs.Memory.{bankOf, locked, readBlock}
-use Rattle.memory.specs.Maps.{mapRead}
+use Rattle.paging.specs.Maps.{mapRead}
 use Rattle.paging.proofs.Paging.read_block.Statement.{statement}
 use Rattle.paging.proofs.Paging.read_block.Tie as tie
 

@@ -5,7 +5,7 @@ use lib.ListN.{getD}
 use borrow.Author.Needs.{needs}
 use native.Mathlib.Omega.{arith}
 use Rattle.paging.specs.Memory.{bankOf, writeBlock}
-use Rattle.memory.specs.Maps.{mapWrite}
+use Rattle.paging.specs.Maps.{mapWrite}
 use Rattle.paging.proofs.Paging.write_block.Statement.{statement}
 use Rattle.paging.proofs.Paging.write_block.Tie as tie
 

@@ -5,13 +5,13 @@ use native.Mathlib.Omega.{arith}
 use mathlib.Core.Path.{_≡_, _∙_, ap}
 use lib.Dec.{ltb}
 use lib.ListN.{length}
-use Rattle.picture.specs.Pictures.{painted, viewBy}
+use Rattle.picture.specs.Pictures.{painted}
 use Rattle.picture.proofs.Painting.{painted-length, lines-start, lines-turn}
 use Rattle.picture.proofs.paint.paint_first.Statement.{statement}
 use Rattle.picture.proofs.paint.paint_first.Tie as tie
 
 abbrev Inv-loop : tie.InvT-loop
-Inv-loop video ram end picture₀ line₀ picture line = (line ≤ end) × (picture ≡ painted (λ (L : ℕ). ltb L line) (viewBy video ram) picture₀)
+Inv-loop video ram end picture₀ line₀ picture line = (line ≤ end) × (picture ≡ painted (λ (L : ℕ). ltb L line) (record { video = video; ram = ram }) picture₀)
 
 abbrev μ-loop : tie.MeasureT-loop
 μ-loop video ram end picture₀ line₀ picture line = end - line

@@ -6,14 +6,14 @@ use mathlib.Core.Path.{_≡_, sym, _∙_, ap}
 use borrow.Author.Needs.{needs}
 use lib.ListN.{length}
 use Rattle.lineset.specs.Lines.{member}
-use Rattle.picture.specs.Pictures.{painted, viewBy}
-use Rattle.picture.proofs.Found.{Found, found-at}
+use Rattle.picture.specs.Pictures.{painted}
+use Rattle.lineset.proofs.Search.{Found, found-at}
 use Rattle.picture.proofs.Painting.{passed, painted-length, passed-start, passed-turn, passed-nothing, passed-over}
 use Rattle.picture.proofs.paint.paint_set.Statement.{statement}
 use Rattle.picture.proofs.paint.paint_set.Tie as tie
 
 abbrev Inv-loop : tie.InvT-loop
-Inv-loop video ram lines picture₀ n₀ picture n = (n ≤ 256) × (picture ≡ painted (passed (member lines) n) (viewBy video ram) picture₀)
+Inv-loop video ram lines picture₀ n₀ picture n = (n ≤ 256) × (picture ≡ painted (passed (member lines) n) (record { video = video; ram = ram }) picture₀)
 
 abbrev μ-loop : tie.MeasureT-loop
 μ-loop video ram lines picture₀ n₀ picture n = 256 - n

@@ -1,7 +1,7 @@
 -- The clock one scan on, every other field as it was.
 -- Assumes nothing.
 use mathlib.Core.Path.{ap}
-use Rattle.parts.specs.declared.Clock.{Clock}
+use Rattle.board.specs.declared.record.Clock.{Clock}
 use Rattle.board.specs.Record.{withClock}
 use borrow.Author.Needs.{needs}
 use Rattle.board.proofs.record.Board.scan.Statement.{statement}

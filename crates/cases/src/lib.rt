@@ -1,1 +1,0 @@
-// No code: the bench cases of document 01, shown of the very definitions that the contracts cite. `bench_cases` runs them.

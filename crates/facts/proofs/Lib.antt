@@ -1,0 +1,3 @@
+pub mod Bools
+pub mod Overlaid
+pub mod Tests

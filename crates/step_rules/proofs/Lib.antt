@@ -1,0 +1,6 @@
+pub mod After
+pub mod Answers
+pub mod ByKind
+pub mod Decoding
+pub mod Good
+pub mod Ports

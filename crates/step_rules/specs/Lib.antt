@@ -1,0 +1,5 @@
+pub mod After
+pub mod Answers
+pub mod Decoding
+pub mod Kinds
+pub mod Ports

@@ -1,0 +1,209 @@
+//! Lists of calls held against a reference (document 01: the slate): what the RAM, the dirty lines, the picture and the
+//! counts must be by the rules alone, without the record and without anything a call returned.
+
+use joyce::fuzz::Rng;
+use joyce::machine::{Machine, Model, StepNumbers};
+use joyce::model::PowerOn;
+use joyce::record::{Board, Sizes, BLOCK, PICTURE};
+use joyce::Library;
+
+/// Sizes, rate, F0 to F7, a RAM of its own and which lines are dirty (document 01: marked).
+struct Reference {
+    internal: usize,
+    total: usize,
+    shown: usize,
+    f: [u8; 8],
+    ram: Vec<u8>,
+    dirty: [bool; 256],
+}
+
+/// A line's pointer word and where its 90 bytes lie.
+fn line_bytes(f: &[u8; 8], ram: &[u8], line: usize) -> (u16, Vec<usize>) {
+    let table = (f[5] as usize / 32) * BLOCK + 512 * (f[5] as usize % 32);
+    let entry = table + 2 * ((f[6] as usize + line) % 256);
+    let w = ram[entry] as usize + 256 * ram[entry + 1] as usize;
+    let (block, v) = (w / 8_192, w % 8_192);
+    let start = 16 * (v / 8) + v % 8;
+    (w as u16, (0..90).map(|i| block * BLOCK + (start + 8 * i) % 16_384).collect())
+}
+
+impl Reference {
+    fn write_block(&self, bank: usize) -> usize {
+        let m = self.f[bank] as usize;
+        let e = m % 128;
+        match (m >= 128, e < self.total) {
+            (true, true) => e,
+            (true, false) => e % self.internal,
+            (false, _) => m % 8,
+        }
+    }
+
+    /// What document 01's table refuses, from a step and the lengths of RAM and boot stream.
+    fn refusal(&self, step: &StepNumbers, ram_len: usize, boot_len: usize) -> u8 {
+        match (step.kind, step.number) {
+            _ if ram_len != self.total * BLOCK || boot_len > 1_024 => 2,
+            (7, 16..) => 3,
+            (4, 0 | 1 | 0x80..=0xEF | 0xF4 | 0xF8 | 0xFC | 0xFD) => 0,
+            (5, 1 | 0x80..=0xEF | 0xF0..=0xF8 | 0xFA..=0xFD) => 0,
+            (4 | 5, _) => 5,
+            _ => 0,
+        }
+    }
+
+    fn step(&mut self, step: &StepNumbers) {
+        let (before, before_ram) = (self.f, self.ram.clone());
+        match (step.kind, step.number as usize, step.value as u8) {
+            (5, 0xF8, value) if value % 16 == 1 => self.f[7] = 0,
+            (5, 0xF8, _) => {}
+            (5, port @ 0xF0..=0xF7, value) => self.f[port - 0xF0] = value,
+            (3, address, value) => {
+                let at = self.write_block(address / BLOCK) * BLOCK + address % BLOCK;
+                self.ram[at] = value;
+            }
+            (7, offset, value) => self.ram[3 * BLOCK + 0x3FF0 + offset] = value,
+            _ => {}
+        }
+        for line in 0..self.shown {
+            let (word, bytes) = line_bytes(&before, &before_ram, line);
+            let (new_word, _) = line_bytes(&self.f, &self.ram, line);
+            self.dirty[line] |= before[5] != self.f[5]
+                || before[6] != self.f[6]
+                || (before[7] ^ self.f[7]) & 0xC0 != 0
+                || word != new_word
+                || bytes.iter().any(|&at| before_ram[at] != self.ram[at]);
+        }
+    }
+
+    /// The count, and the shown lines as they must be drawn.
+    fn refresh(&mut self) -> (u16, Vec<u8>) {
+        let count = self.dirty.iter().filter(|&&dirty| dirty).count() as u16;
+        self.dirty = [false; 256];
+        let mut picture = Vec::new();
+        for line in 0..self.shown {
+            for at in line_bytes(&self.f, &self.ram, line).1 {
+                let byte = if self.f[7] & 0x40 != 0 { self.ram[at] } else { 0 };
+                picture.push(if self.f[7] & 0x80 != 0 { !byte } else { byte });
+            }
+        }
+        (count, picture)
+    }
+}
+
+fn random_step(rng: &mut Rng, reference: &Reference) -> StepNumbers {
+    let (a, b, c) = (rng.byte(), rng.byte(), rng.byte());
+    let line = line_bytes(&reference.f, &reference.ram, a as usize).1;
+    let near = line[b as usize % 90] % BLOCK + BLOCK * (c as usize % 4);
+    let table = 512 * (reference.f[5] as usize % 32) + 2 * a as usize + BLOCK * (c as usize % 4);
+    match rng.below(14) {
+        0..=3 => StepNumbers::write(near as u16, b & 3),
+        4..=5 => StepNumbers::write(table as u16, b),
+        6 => StepNumbers::write(a as u16 * 256 + b as u16, c),
+        7 => StepNumbers::keyboard(a % 17, b),
+        8 => StepNumbers::port_out(0xF0 + a % 5, b),
+        9 if a < 64 => StepNumbers::port_out(0xF5 + a % 3, b),
+        9 | 10 => StepNumbers::port_out(a, b),
+        11 => StepNumbers::port_out(0xF8, a),
+        12 => StepNumbers::port_in(a),
+        _ => rng.pick(&[
+            StepNumbers::scan(),
+            StepNumbers::fetch(1),
+            StepNumbers::read(2),
+            StepNumbers::disc_line(true),
+            StepNumbers::external_line(false),
+        ]),
+    }
+}
+
+fn run_list(machine: &dyn Machine, seed: u64, calls: usize) {
+    let mut rng = Rng::new(seed);
+    let rate = rng.pick(&[50, 60]);
+    let shown = if rate == 50 { 256 } else { 200 };
+    let mut ram = vec![0; 8 * BLOCK];
+    rng.fill(&mut ram);
+    let mut picture = vec![0; PICTURE];
+    rng.fill(&mut picture);
+    let start = picture.clone();
+    let f = [rng.byte(), rng.byte(), rng.byte(), rng.byte(), rng.byte(), rng.pick(&[0x7F, 0x5B]), rng.byte(), 0];
+    let on = PowerOn {
+        sizes: Sizes { internal: 8, total: 8 },
+        rate,
+        maps: [f[0], f[1], f[2], f[3]],
+        lock: f[4],
+        table: f[5],
+        top: f[6],
+    };
+    let mut board = Board::default();
+    assert_eq!(machine.power_on(&mut board, &on).refusal(), 0);
+    let dirty = std::array::from_fn(|line| line < shown);
+    let mut reference = Reference { internal: 8, total: 8, shown, f, ram: ram.clone(), dirty };
+    for call in 0..calls {
+        if rng.once_in(6) {
+            let (ram_len, picture_len) = (ram.len() - rng.once_in(9) as usize, PICTURE - rng.once_in(9) as usize);
+            let reply = machine.refresh(&mut board, &ram[..ram_len], &mut picture[..picture_len]);
+            if (ram_len, picture_len) == (8 * BLOCK, PICTURE) {
+                let (count, lines) = reference.refresh();
+                assert_eq!((reply.refusal(), reply.value()), (0, count), "seed {seed}, call {call}");
+                assert_eq!(picture[..lines.len()], lines, "seed {seed}, call {call}");
+            } else {
+                assert_eq!((reply.refusal(), reply.value()), (2, 0), "seed {seed}, call {call}");
+            }
+        } else {
+            let step = random_step(&mut rng, &reference);
+            let ram_len = ram.len() - rng.once_in(20) as usize;
+            let boot_len = rng.pick(&[0, 1, 700, 1_023, 1_024, 1_024, 1_025]);
+            let reply = machine.step(&mut board, step, &mut ram[..ram_len], &[7; 1_025][..boot_len]);
+            let refusal = reference.refusal(&step, ram_len, boot_len);
+            // A boot stream that has run out meets fetches only, and they change nothing here.
+            if !(step.kind == 1 && refusal == 0 && reply.refusal() == 4) {
+                assert_eq!(reply.refusal(), refusal, "seed {seed}, call {call}: {step:?}");
+            }
+            if refusal == 0 {
+                reference.step(&step);
+            }
+        }
+        assert!(ram == reference.ram, "seed {seed}, call {call}: RAM");
+        let dirty: [bool; 256] = std::array::from_fn(|line| board.dirty.has(line as u8));
+        assert_eq!(dirty, reference.dirty, "seed {seed}, call {call}");
+        assert!(picture[shown * 90..] == start[shown * 90..], "seed {seed}, call {call}: unshown lines");
+    }
+}
+
+#[test]
+fn the_model_keeps_to_the_reference() {
+    (0..12).for_each(|seed| run_list(&Model, seed, 150));
+}
+
+#[test]
+fn the_library_keeps_to_the_reference() {
+    (100..112).for_each(|seed| run_list(&Library, seed, 150));
+}
+
+/// Ticks landed = counts read + the counter now + ticks lost at 15 + counts that a reset threw away.
+#[test]
+fn no_tick_goes_missing() {
+    let mut rng = Rng::new(3);
+    let on = PowerOn { sizes: Sizes { internal: 8, total: 8 }, rate: 50, ..PowerOn::default() };
+    let (mut board, mut ram) = (Board::default(), vec![0; 8 * BLOCK]);
+    Library.power_on(&mut board, &on);
+    let (mut beam, mut ticks_landed, mut counts_read, mut ticks_lost, mut counts_reset) = (0, 0u32, 0, 0, 0);
+    for _ in 0..200_000 {
+        let counter = board.clock.counter as u32;
+        let step = match rng.below(2_000) {
+            0..=3 => StepNumbers::port_in(0xF4),
+            4 => StepNumbers::port_out(0xF8, 1),
+            _ => StepNumbers::scan(),
+        };
+        let reply = Library.step(&mut board, step, &mut ram, &[]);
+        match step.kind {
+            4 => counts_read += reply.value() as u32 & 15,
+            5 => counts_reset += counter,
+            _ => {
+                beam = (beam + 1) % 312;
+                ticks_landed += (beam % 52 == 2) as u32;
+                ticks_lost += (beam % 52 == 2 && counter == 15) as u32;
+            }
+        }
+        assert_eq!(ticks_landed, counts_read + board.clock.counter as u32 + ticks_lost + counts_reset);
+    }
+    assert!(ticks_lost > 0 && counts_reset > 0 && counts_read > 0);
+}
