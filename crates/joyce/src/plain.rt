@@ -65,7 +65,7 @@ pub extern "C" fn joyce_reach(
 ) -> u64
     ensures { λ r. ⌜ r ≡ reachReply (sizesOf internal total) (pagingOf f0 f1 f2 f3 lock) address ⌝ }
 {
-    reach_reply(internal, total, f1, f0, f2, f3, lock, address)
+    reach_reply(internal, total, f0, f1, f2, f3, lock, address)
 }
 
 // The first place where two pictures differ.
