@@ -43,7 +43,7 @@ say_next(shown(60), 199)
 say_next(shown(60), 200)
 say_next(set(), 0)
 
-say("== places")
+say("== indexes")
 for internal, total, address in ((8, 8, 0x0005), (8, 8, 0x7FFF), (32, 40, 0x8001), (8, 41, 0x8001), (8, 8, 0xFFFF)):
     indexes = access_indexes(internal, total, [0x25, 0x25, 0xA8, 0x87], 0x40, address)
     say("address %04x: read %06x write %06x" % (address, *indexes))

@@ -218,7 +218,7 @@ def scenes():
     bad(50, beam=312)
     bad(60, beam=260)
     bad(50, beam=65535)
-    title("bad records: boot, disc, flags, notes")
+    title("bad records: boot, disc, flags, dirty lines")
     bad(50, boot_mode=2)
     bad(50, boot_mode=255)
     bad(50, boot_at=1025)
@@ -264,12 +264,12 @@ def scenes():
 
     every_kind("all at fault", 131071, 1025, counter=16)
     every_kind("bad record", 131072, 1, counter=16)
-    every_kind("RAM one short, no stream", 131071, 0)
+    every_kind("RAM one short, no boot stream", 131071, 0)
     every_kind("RAM one long", 131073, 1, rate=60)
     every_kind("no RAM", 0, 1)
-    every_kind("stream one long", 131072, 1025)
-    every_kind("no stream", 131072, 0)
-    every_kind("a stream of 1,024", 131072, 1024, rate=60)
+    every_kind("boot stream one long", 131072, 1025)
+    every_kind("no boot stream", 131072, 0)
+    every_kind("a boot stream of 1,024", 131072, 1024, rate=60)
 
     title("a boot stream of three bytes")
     start(8, 8, 50, length=3)
@@ -328,16 +328,16 @@ def scenes():
         run("out f8 %02x; RECORD" % n)
         on()
         run("out f8 %02x; RECORD" % (0xA0 + n))
-    title("channels in, passed on and refused")
+    title("ports in, forwarded and refused")
     off()
     run("; ".join("in %02x" % p for p in (0, 1, 2, 0x7F, 0x80, 0xEF, 0xF0, 0xF3, 0xF5, 0xF7, 0xF9, 0xFA, 0xFB, 0xFC, 0xFD, 0xFE, 0xFF)) + "; RECORD")
-    title("channels out, passed on and refused")
+    title("ports out, forwarded and refused")
     on()
     run("; ".join("out %02x 01" % p for p in (0, 1, 2, 0x7F, 0x80, 0xEF, 0xF9, 0xFC, 0xFD, 0xFE, 0xFF)) + "; RECORD")
-    title("all channels in")
+    title("all ports in")
     ready(50)
     every_port("in", 0)
-    title("all channels out")
+    title("all ports out")
     every_port("out", 0xA5)
 
     title("INT from the counter, the external line and the disc line")
@@ -366,7 +366,7 @@ def scenes():
     run("SCANS 259; scan; in f4; SCANS 1039; scan; in f4; RECORD")
 
     for rate in (50, 60):
-        title("lines noted by registers, %d Hz" % rate)
+        title("lines dirty by registers, %d Hz" % rate)
         ready(rate)
         run("""out f5 20; out f5 21; DIRTY; out f5 21; out f5 20; CLEAN; out f6 00; out f6 01; DIRTY; out f6 01
             out f6 00; CLEAN
@@ -374,7 +374,7 @@ def scenes():
             out f7 7f; CLEAN; out f7 40; out f7 c0; CLEAN; out f7 ff; out f7 bf; CLEAN; out f7 80; out f7 40; CLEAN; out f7 40
             out f8 01; DIRTY; out f8 01; out f7 3f; out f8 01; out f7 80; CLEAN; out f8 f1; CLEAN
             out f0 87; out f1 87; out f2 87; out f3 87; out f4 ff; out f8 08; out fa ff; out fc ff""")
-    title("notes are kept and added to")
+    title("dirty lines are kept and added to")
     ready(60)
     set_field("dirty", frozenset([194, 199]))
     run("out f5 20; out f6 00; DIRTY")

@@ -264,7 +264,7 @@ const DOUBLED: [u16; 256] = [
 ];
 
 // The table, whose rule is checked here, once, over all entries. Made once for a whole line.
-pub fn doubled_table() -> [u16; 256]
+pub(crate) fn doubled_table() -> [u16; 256]
     ensures { λ r. ⌜ r ≡ tabulate doubledPair 0 256 ⌝ }
 {
     DOUBLED

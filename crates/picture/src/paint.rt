@@ -27,7 +27,7 @@ fn paint_line(video: Video, ram: &[u8], line: u8, picture: &mut [u8])
 }
 
 // The lines from 0 to before `end`.
-pub fn paint_first(video: Video, ram: &[u8], end: u16, picture: &mut [u8])
+pub(crate) fn paint_first(video: Video, ram: &[u8], end: u16, picture: &mut [u8])
     requires { ⌜ (131072 ≤ length (now ram)) × ((length (now picture) ≡ 23040) × (end ≤ 256)) ⌝ }
     ensures { λ r. ⌜ now (picture .exit) ≡ painted (λ (L : ℕ). ltb L end) (record { video = video; ram = now (ram .entry) }) (now (picture .entry)) ⌝ }
 {
@@ -39,7 +39,7 @@ pub fn paint_first(video: Video, ram: &[u8], end: u16, picture: &mut [u8])
 }
 
 // The lines of a set, found one after the other.
-pub fn paint_set(video: Video, ram: &[u8], lines: LineSet, picture: &mut [u8])
+pub(crate) fn paint_set(video: Video, ram: &[u8], lines: LineSet, picture: &mut [u8])
     requires { ⌜ (131072 ≤ length (now ram)) × (length (now picture) ≡ 23040) ⌝ }
     ensures { λ r. ⌜ now (picture .exit) ≡ painted (member lines) (record { video = video; ram = now (ram .entry) }) (now (picture .entry)) ⌝ }
 {

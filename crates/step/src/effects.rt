@@ -7,7 +7,7 @@ use step_rules::Effect;
 use step_rules::Outcome;
 
 // No byte, and not forwarded.
-pub fn silent() -> Outcome
+pub(crate) fn silent() -> Outcome
     ensures { λ r. ⌜ r ≡ Answers·silent ⌝ }
 {
     Outcome {
@@ -16,7 +16,7 @@ pub fn silent() -> Outcome
     }
 }
 
-pub fn giving(byte: u8) -> Outcome
+pub(crate) fn giving(byte: u8) -> Outcome
     ensures { λ r. ⌜ r ≡ Answers·giving byte ⌝ }
 {
     Outcome {
@@ -25,14 +25,14 @@ pub fn giving(byte: u8) -> Outcome
     }
 }
 
-pub fn forwarding(forwarded: bool) -> Outcome
+pub(crate) fn forwarding(forwarded: bool) -> Outcome
     ensures { λ r. ⌜ r ≡ Answers·forwarding forwarded ⌝ }
 {
     Outcome { byte: 0, forwarded }
 }
 
 // A kind accepts: the record that it hands on, and its outcome.
-pub fn accepts(b: Board, outcome: Outcome) -> Effect
+pub(crate) fn accepts(b: Board, outcome: Outcome) -> Effect
     ensures { λ r. ⌜ r ≡ Answers·accepts b outcome ⌝ }
 {
     Effect {
@@ -46,7 +46,7 @@ pub fn accepts(b: Board, outcome: Outcome) -> Effect
 }
 
 // A kind refuses, with a number and the record given.
-pub fn refuses(b: Board, refusal: u8) -> Effect
+pub(crate) fn refuses(b: Board, refusal: u8) -> Effect
     ensures { λ r. ⌜ r ≡ Answers·refuses b refusal ⌝ }
 {
     Effect {

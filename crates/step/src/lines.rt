@@ -19,7 +19,7 @@ fn nmi_line(b: Board) -> bool
 }
 
 // A refused step's answer: the record given, and its lines, which are off where it is not good.
-pub fn refused(b: Board, number: u8) -> Answer
+pub(crate) fn refused(b: Board, number: u8) -> Answer
     ensures { λ r. ⌜ r ≡ refusedAnswer b number ⌝ }
 {
     let int = int_line(b);
@@ -38,7 +38,7 @@ pub fn refused(b: Board, number: u8) -> Answer
 }
 
 // The answer of what a kind does: an NMI is shown once, and then the route is none.
-pub fn with_interrupt_lines(e: Effect) -> Answer
+pub(crate) fn with_interrupt_lines(e: Effect) -> Answer
     ensures { λ r. ⌜ r ≡ answerOf e ⌝ }
 {
     let int = int_line(e.board);

@@ -26,7 +26,7 @@ fn read_byte(b: Board, address: u16, ram: &[u8]) -> u8
 }
 
 // In boot mode the stream's next byte, else the byte read.
-pub fn fetch_effect(b: Board, address: u16, ram: &[u8], boot: &[u8]) -> Effect
+pub(crate) fn fetch_effect(b: Board, address: u16, ram: &[u8], boot: &[u8]) -> Effect
     requires { ⌜ length (now boot) ≤ 1024 ⌝ }
     ensures { λ r. ⌜ r ≡ plainEffect b (now (ram .entry)) (now (boot .entry)) (Step.Fetch address) ⌝ }
 {
@@ -43,7 +43,7 @@ pub fn fetch_effect(b: Board, address: u16, ram: &[u8], boot: &[u8]) -> Effect
     accepts(after, giving(boot[at]))
 }
 
-pub fn read_effect(b: Board, address: u16, ram: &[u8], boot: &[u8]) -> Effect
+pub(crate) fn read_effect(b: Board, address: u16, ram: &[u8], boot: &[u8]) -> Effect
     ensures { λ r. ⌜ r ≡ plainEffect b (now (ram .entry)) (now (boot .entry)) (Step.Read address) ⌝ }
 {
     let byte = read_byte(b, address, ram);
@@ -60,7 +60,7 @@ fn put(ram: &mut [u8], at: usize, value: u8)
 }
 
 // The lines are marked by the block that is written, not by the one that is read.
-pub fn write_effect(b: Board, address: u16, value: u8, ram: &mut [u8], boot: &[u8]) -> Effect
+pub(crate) fn write_effect(b: Board, address: u16, value: u8, ram: &mut [u8], boot: &[u8]) -> Effect
     ensures { λ r. ⌜ (r ≡ stepEffect b (now (ram .entry)) (now (boot .entry)) (Step.Write address value)) × (now (ram .exit) ≡ effectRam b (now (ram .entry)) (now (boot .entry)) (Step.Write address value)) ⌝ }
 {
     let p = b.paging;
@@ -73,7 +73,7 @@ pub fn write_effect(b: Board, address: u16, value: u8, ram: &mut [u8], boot: &[u
 }
 
 // A byte from the keyboard, at an offset from 0 to 15.
-pub fn key_effect(b: Board, offset: u8, value: u8, ram: &mut [u8], boot: &[u8]) -> Effect
+pub(crate) fn key_effect(b: Board, offset: u8, value: u8, ram: &mut [u8], boot: &[u8]) -> Effect
     ensures { λ r. ⌜ (r ≡ stepEffect b (now (ram .entry)) (now (boot .entry)) (Step.Key offset value)) × (now (ram .exit) ≡ effectRam b (now (ram .entry)) (now (boot .entry)) (Step.Key offset value)) ⌝ }
 {
     if offset > 15 {

@@ -37,7 +37,7 @@ fn is_forwarded(port: u8) -> bool
 }
 
 // F4 and F8 give one byte; F4 alone clears the counter.
-pub fn port_in_effect(b: Board, port: u8, ram: &[u8], boot: &[u8]) -> Effect
+pub(crate) fn port_in_effect(b: Board, port: u8, ram: &[u8], boot: &[u8]) -> Effect
     requires { ⌜ b .clock .counter ≤ 15 ⌝ }
     ensures { λ r. ⌜ r ≡ plainEffect b (now (ram .entry)) (now (boot .entry)) (Step.PortIn port) ⌝ }
 {
@@ -61,7 +61,7 @@ pub fn port_in_effect(b: Board, port: u8, ram: &[u8], boot: &[u8]) -> Effect
     }
 }
 
-pub fn port_out_effect(b: Board, port: u8, value: u8, ram: &[u8], boot: &[u8]) -> Effect
+pub(crate) fn port_out_effect(b: Board, port: u8, value: u8, ram: &[u8], boot: &[u8]) -> Effect
     ensures { λ r. ⌜ r ≡ stepEffect b (now (ram .entry)) (now (boot .entry)) (Step.PortOut port value) ⌝ }
 {
     if is_forwarded(port) {

@@ -8,13 +8,13 @@ use step_rules::Effect;
 use step_rules::Step;
 
 // One scan: the beam moves on, and at a tick the counter.
-pub fn scan_effect(b: Board, ram: &[u8], boot: &[u8]) -> Effect
+pub(crate) fn scan_effect(b: Board, ram: &[u8], boot: &[u8]) -> Effect
     ensures { λ r. ⌜ r ≡ plainEffect b (now (ram .entry)) (now (boot .entry)) Step.Scan ⌝ }
 {
     accepts(b.scan(), silent())
 }
 
-pub fn disc_line_effect(b: Board, on: bool, ram: &[u8], boot: &[u8]) -> Effect
+pub(crate) fn disc_line_effect(b: Board, on: bool, ram: &[u8], boot: &[u8]) -> Effect
     ensures { λ r. ⌜ r ≡ plainEffect b (now (ram .entry)) (now (boot .entry)) (Step.DiscLine on) ⌝ }
 {
     let line = on as u8;
@@ -23,7 +23,7 @@ pub fn disc_line_effect(b: Board, on: bool, ram: &[u8], boot: &[u8]) -> Effect
     accepts(after, silent())
 }
 
-pub fn external_line_effect(b: Board, on: bool, ram: &[u8], boot: &[u8]) -> Effect
+pub(crate) fn external_line_effect(b: Board, on: bool, ram: &[u8], boot: &[u8]) -> Effect
     ensures { λ r. ⌜ r ≡ plainEffect b (now (ram .entry)) (now (boot .entry)) (Step.ExternalLine on) ⌝ }
 {
     let line = on as u8;

@@ -10,7 +10,7 @@ fn main() {
     sets::sets();
     text(b"== the next line of a set\n");
     sets::lines();
-    text(b"== places\n");
+    text(b"== indexes\n");
     memory::indexes();
     text(b"== bytes and pointer words\n");
     memory::table();
