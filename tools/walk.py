@@ -20,7 +20,7 @@ Kinds, of a parameter and of the result:
     'struct:NAME' 'enum:NAME'                 a declared type by value, with no reference inside
     'shr' 'mut'                               `&[u8]`, `&mut [u8]`; of a parameter alone
 
-An example. Crate `board` declares Board, crate `firmware` has
+An example. Crate `board` declares Board, crate `calls` has
 
     pub struct Reply { pub board: Board, pub word: u32 }
 
@@ -29,7 +29,7 @@ An example. Crate `board` declares Board, crate `firmware` has
     { .. }
 
     #[no_mangle]
-    pub extern "C" fn firmware_step(b: &mut Board, kind: u8, ram: &mut [u8], boot: &[u8]) -> u32
+    pub extern "C" fn calls_step(b: &mut Board, kind: u8, ram: &mut [u8], boot: &[u8]) -> u32
         ensures { λ r. ⌜ (r ≡ replyOf (now (b .entry)) kind .word) × ((now (b .exit) ≡ replyOf (now (b .entry)) kind .board)
             × (now (ram .exit) ≡ storedOf (now (ram .entry)) kind)) ⌝ }
     {
@@ -40,12 +40,12 @@ An example. Crate `board` declares Board, crate `firmware` has
 
 and its description is
 
-    write(crate='firmware', fn='firmware_step', callee='stepped', board='Board', answer='Reply', result=('word', 'u32'),
+    write(crate='calls', fn='calls_step', callee='stepped', board='Board', answer='Reply', result=('word', 'u32'),
           types={'Board': 'board'},
           params=[('kind', 'u8'), ('ram', 'mut'), ('boot', 'shr')],
           ensures='(r ≡ replyOf h kind) × (ram′ ≡ storedOf ram kind)',
           says='(ap (λ (a : Reply). a .word) (e .0), (ap (λ (a : Reply). a .board) (e .0), e .1))',
-          uses=['use Rattle.board.specs.Steps.{storedOf}', 'use Rattle.firmware.specs.Replies.{replyOf}'])
+          uses=['use Rattle.board.specs.Steps.{storedOf}', 'use Rattle.calls.specs.Replies.{replyOf}'])
 
     crate      the crate of F
     fn         F's name in its crate; with the modules or the type that it stands below, as 'screen.draw', 'Board.scan'
@@ -54,7 +54,7 @@ and its description is
     answer     the type that G returns, and result the name and the kind of its field 1: both or neither, in mode 'mut'
     result     in mode 'ref' the kind of the result, or None
     types      where a declared type is declared, if not at the root of F's crate: a crate, or a crate and modules, as
-               {'Board': 'board', 'Fdc': 'board.disc', 'Reply': 'firmware.replies'}
+               {'Board': 'board', 'Fdc': 'board.disc', 'Reply': 'calls.replies'}
     params     the other parameters in order, each a name and a kind. The names serve this description alone
     requires   G's clause, of h, the board, and the parameters, in which a slice's name is its list; or None
     ensures    G's clause, of r, what G returns, of h and the parameters, and of NAME′, the last list of a 'mut'
