@@ -7,7 +7,6 @@ use mathlib.Core.Bool.{Bool, false, _&&_}
 use borrow.Author.Tests.{le-leb, lt-leb, ne-eqb}
 use lib.Dec.{leb}
 use lib.ListN.{set}
-use Rattle.paging.specs.declared.Paging.{Paging}
 use Rattle.board.specs.declared.record.Board.{Board}
 use Rattle.board.specs.Registers.{pagingOut, videoOut, written}
 

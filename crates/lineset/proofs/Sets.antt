@@ -89,14 +89,11 @@ words-make p s four h =
 pub set-members : (s : LineSet) → Words s → s ≡ setOf (member s)
 set-members s ws = words-make (member s) s (ws .four) (λ j l. sym (word-members s ws j))
 
--- sets of tests that agree, and of members that agree, are equal
+-- sets of tests that agree are equal
 pub set-agree : (p q : ℕ → Bool) → ((L : ℕ) → L < 256 → p L ≡ q L) → setOf p ≡ setOf q
 set-agree p q h =
     words-make q (setOf p) (words-set p .four)
     (λ j l. word-of p j l ∙ packed-agree p q (64 * j) 64 (λ i k. h (64 * j + i) (omega arith)))
-
-pub set-equal : (s t : LineSet) → Words s → Words t → ((L : ℕ) → L < 256 → member s L ≡ member t L) → s ≡ t
-set-equal s t ws wt h = set-members s ws ∙ set-agree (member s) (member t) h ∙ sym (set-members t wt)
 
 -- more lines, by a test of each
 pub more-agree : (d : LineSet) (x y : ℕ → Bool) → ((L : ℕ) → L < 256 → x L ≡ y L) → setOf (λ (L : ℕ). member d L || x L) ≡ setOf (λ (L : ℕ). member d L || y L)
@@ -113,7 +110,3 @@ more-all d x h =
 -- the count of a set made of a test
 pub count-set : (p : ℕ → Bool) → countOf (member (setOf p)) 0 256 ≡ countOf p 0 256
 count-set p = count-agree (member (setOf p)) p 0 256 (λ i l. member-set p (0 + i) (omega arith))
-
--- a set changed at one line: that line is in it, every other as before
-pub member-insert : (s : LineSet) (k L : ℕ) → L < 256 → member (setOf (λ (M : ℕ). eqb M k || member s M)) L ≡ (eqb L k || member s L)
-member-insert s k L l = member-set (λ (M : ℕ). eqb M k || member s M) L l

@@ -3,7 +3,7 @@ ghost use mathlib.Core.Path.{_≡_};
 ghost use lib.ListN.{getD};
 ghost use Rattle.paging.specs.Maps.{ramFits, mapRead, mapWrite};
 ghost use Rattle.paging.specs.Maps.{allowed as Maps·allowed, expansion as Maps·expansion};
-ghost use Rattle.paging.specs.Memory.{bankOf, placeOf, readBlock, writeBlock, reachOf, indexOf, keyboardIndex};
+ghost use Rattle.paging.specs.Memory.{bankOf, readBlock, writeBlock, reachOf, indexOf, keyboardIndex};
 ghost use Rattle.paging.specs.Memory.{locked as Memory·locked};
 
 // Memory sizes in 16K blocks: internal, and internal with expansion.

@@ -11,8 +11,6 @@ use Rattle.facts.proofs.Bools.{or-first, or-second}
 use Rattle.lineset.specs.Lines.{member, shownCount, isShown}
 use Rattle.lineset.proofs.Sets.{Words}
 use Rattle.lineset.proofs.Shown.{is-shown}
-use Rattle.paging.specs.declared.Paging.{Paging}
-use Rattle.scanline.specs.declared.Video.{Video}
 use Rattle.scanline.specs.Drawing.{View, changed, drawn}
 use Rattle.scanline.proofs.Changes.{changed-self, unchanged-drawn}
 use Rattle.board.specs.declared.record.Board.{Board}

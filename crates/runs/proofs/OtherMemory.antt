@@ -2,11 +2,10 @@
 -- Assumes nothing.
 use Prim.Native.Nat.{ℕ}
 use native.Mathlib.Omega.{arith}
-use mathlib.Core.Path.{_≡_, refl, sym, _∙_}
+use mathlib.Core.Path.{_≡_, _∙_}
 use mathlib.Core.Bool.{Bool, true}
 use mathlib.Core.List.{List}
 use lib.ListN.{length}
-use Rattle.board.specs.declared.record.Board.{Board}
 use Rattle.board.specs.Record.{good, recordRefusal}
 use Rattle.board.proofs.Refusals.{first-first, first-second, good-record}
 use Rattle.step_rules.specs.declared.Step.{Step}

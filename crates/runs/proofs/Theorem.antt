@@ -8,7 +8,7 @@ use mathlib.Core.Bool.{Bool, true, false, cond, true≢false}
 use mathlib.Core.List.{List, [], _∷_}
 use lib.ListN.{getD, length}
 use lib.Seq.{ext-getD}
-use Rattle.lineset.specs.Lines.{member, shownCount, isShown, shownSet}
+use Rattle.lineset.specs.Lines.{member, isShown, shownSet}
 use Rattle.lineset.proofs.Shown.{is-shown, shown-line, unshown-line, shown-member}
 use Rattle.paging.specs.declared.Sizes.{Sizes}
 use Rattle.paging.specs.declared.Paging.{Paging}

@@ -55,14 +55,14 @@ unfolding madePointer pointerRefusal
 made-refused p h = rw (test-true p h)
 
 -- taken: the word, and the number 0
-pub made-taken :
+pub made-accepted :
     (p : Pointer) →
     p .block ≤ 7 →
     ltb 16383 (p .start) ≡ false →
     eqb (p .start / 8 % 2) 1 ≡ false →
     madePointer p ≡ record { word = wordOf p; refusal = 0 }
 unfolding madePointer pointerRefusal
-made-taken p b s e = rw (le-ltb 7 (p .block) b, s, e)
+made-accepted p b s e = rw (le-ltb 7 (p .block) b, s, e)
 
 pub word-of-lt : (block start : ℕ) → block ≤ 7 → ltb 16383 start ≡ false → block * 8192 + (start / 16 * 8 + start % 8) < 65536
 word-of-lt block start b s = omega (arith, ltb-false 16383 start s)
@@ -75,7 +75,7 @@ word-read w = omega arith
 pub make-read : (w : ℕ) → w < 65536 → madePointer (pointerOf w) ≡ record { word = w; refusal = 0 }
 unfolding pointerOf
 make-read w h =
-    made-taken (pointerOf w) (omega arith) (le-ltb 16383 (pointerOf w .start) (omega arith))
+    made-accepted (pointerOf w) (omega arith) (le-ltb 16383 (pointerOf w .start) (omega arith))
     (ne-eqb (pointerOf w .start / 8 % 2) 1 (λ (e : pointerOf w .start / 8 % 2 ≡ 1). omega arith))
     ∙ ap (λ (x : ℕ). record { word = x; refusal = 0 }) (word-read w)
 

@@ -36,15 +36,7 @@ module _ (ram : List ℕ) (table top at line : ℕ) where
         ne-eqb at (entryIndex table top line + 1) (λ (z : at ≡ entryIndex table top line + 1). h (omega (arith, entry-index-even table top line))),
       )
 
-  -- both at once
-  pub touches-test : touches ram table top at line ≡ (eqb (at / 2) (entryIndex table top line / 2) || pixelTouched (pointerWord ram table top line) at)
-  touches-test = go (eqb (at / 2) (entryIndex table top line / 2)) refl
-    where
-      go : (b : Bool) → eqb (at / 2) (entryIndex table top line / 2) ≡ b → touches ram table top at line ≡ (b || pixelTouched (pointerWord ram table top line) at)
-      go true e = touches-pointer (eqb-true (at / 2) (entryIndex table top line / 2) e)
-      go false e = touches-other (eqb-false (at / 2) (entryIndex table top line / 2) e)
-
-  -- standard RAM holds every place that touches a line
+  -- standard RAM holds every index that touches a line
   pub touches-past :
       131072 ≤ at →
       table < 256 →

@@ -14,7 +14,7 @@ use mir.Val.{boolByte}
 use Rattle.lineset.specs.Lines.{packed}
 use Rattle.facts.proofs.Bools.{boolByte-lt}
 use Rattle.lineset.proofs.Packed.{packed-agree}
-use Rattle.scanline.specs.Pointers.{tableIndex, entryOf, entryIndex, pointerWord}
+use Rattle.scanline.specs.Pointers.{entryOf, entryIndex, pointerWord}
 use Rattle.scanline.proofs.Pointers.{table-index}
 use Rattle.scanline.specs.Drawing.{pixelTouched, touches}
 use Rattle.lineset.proofs.Packed.{packed-down, packed-end, packed-moved}

@@ -1,7 +1,6 @@
 // A step of any kind: it takes the record and hands the next one on in its answer, and is lent RAM and boot stream. Both are
 // checked first, and once.
 ghost use mathlib.Core.Path.{_≡_};
-ghost use mathlib.Core.List.{List};
 ghost use Prim.Native.Nat.{_≤_};
 ghost use lib.ListN.{length};
 ghost use Rattle.step_rules.specs.Answers.{lentRefusal, stepEffect, effectRam, stepAnswer, stepRam};

@@ -13,7 +13,6 @@ use Rattle.lineset.specs.declared.LineSet.{LineSet}
 use Rattle.lineset.proofs.Sets.{Words}
 use Rattle.paging.specs.Maps.{ramFits}
 use Rattle.paging.proofs.Maps.{ram-length}
-use Rattle.scanline.specs.declared.Video.{Video}
 use Rattle.scanline.specs.Drawing.{View}
 use Rattle.board.specs.declared.record.Board.{Board}
 use Rattle.board.specs.Record.{good, recordRefusal, viewOf, withDirty}
@@ -39,9 +38,6 @@ module _ (b : Board) (n m : ℕ) (e : lentRefusal b n m ≡ 0) where
   lengths : (ramFits (b .sizes) n ≡ true) × (bootFits m ≡ true)
   unfolding lengthRefusal
   lengths = both (ramFits (b .sizes) n) (bootFits m) (not-refused (ramFits (b .sizes) n && bootFits m) 2 (λ (z : _≡_ {A = ℕ} 2 0). omega arith) (parts .1))
-
-  pub lent-ram : n ≡ b .sizes .total * 16384
-  lent-ram = ram-length (b .sizes) n (lengths .0)
 
   pub lent-boot : m ≤ 1024
   unfolding bootFits

@@ -25,8 +25,8 @@ use Rattle.board.specs.Registers.{obeyed, clockCommanded, bootCommanded, discCo
 use Rattle.board.proofs.Good.{Parts, good-parts, parts-good, clock-ranges, clock-good, boot-ranges, boot-good, DiscRanges, disc-ranges, FlagRanges, flag-ranges, flags-good}
 use Rattle.step_rules.specs.declared.Step.{Step}
 use Rattle.step_rules.specs.declared.Step.the-variants.{Fetch, Read, Write, PortIn, PortOut, Scan, Key, DiscLine, ExternalLine}
-use Rattle.step_rules.specs.After.{clockAfter, bootFetched, bootAfter, discAfter, externalAfter, drivenAfter, bleeperAfter, ramAfter, partsAfter, boardAfter}
-use Rattle.step_rules.specs.Answers.{streamEnded, stateRefusal, nmiLine, nmiShown, stepAnswer, stepRam}
+use Rattle.step_rules.specs.After.{clockAfter, bootFetched, bootAfter, discAfter, ramAfter, partsAfter, boardAfter}
+use Rattle.step_rules.specs.Answers.{streamEnded, stateRefusal, nmiLine, nmiShown, stepAnswer}
 use Rattle.step_rules.proofs.ByKind.{on-in, on-out, on-scan, on-disc, on-external}
 use Rattle.step_rules.proofs.After.{after-step}
 use Rattle.step_rules.proofs.Answers.{lent-boot, lent-none, state-none}

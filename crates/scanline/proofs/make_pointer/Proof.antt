@@ -3,7 +3,7 @@ use borrow.Author.Needs.{needs}
 use mathlib.Core.Path.{sym}
 use mathlib.Core.Logic.{⊎-elim, inl, inr}
 use Rattle.scanline.specs.Pointers.{wordOf}
-use Rattle.scanline.proofs.Pointers.{made-refused, made-taken, word-of-lt}
+use Rattle.scanline.proofs.Pointers.{made-refused, made-accepted, word-of-lt}
 use Rattle.scanline.proofs.make_pointer.Statement.{statement}
 use Rattle.scanline.proofs.make_pointer.Tie as tie
 
@@ -30,7 +30,7 @@ add-t13 c = record { fits = word-of-lt _ _ (c .before .before .before .before .b
 
 returns-2 : tie.Need-returns-2
 unfolding wordOf
-returns-2 c = sym (made-taken _ (c .before .before .before .before .before .before .before .if1 .left) (c .before .before .before .before .before .if2 .left) (c .before .before .before .if3 .left))
+returns-2 c = sym (made-accepted _ (c .before .before .before .before .before .before .before .if1 .left) (c .before .before .before .before .before .if2 .left) (c .before .before .before .if3 .left))
 
 pub make-pointer-spec : {M : Type 1} → statement M
 make-pointer-spec = tie.close (tie.spec returns cast-t7 mul-t8 mul-t10 add-t12 add-t13 returns-2)

@@ -16,7 +16,7 @@ use Rattle.board.proofs.Registers.{written-past}
 use Rattle.step_rules.specs.declared.Outcome.{Outcome}
 use Rattle.step_rules.specs.declared.Step.the-variants.{PortOut}
 use Rattle.step_rules.specs.Ports.{forwardedOut, decodedOut}
-use Rattle.step_rules.specs.After.{partsAfter, boardAfter}
+use Rattle.step_rules.specs.After.{boardAfter}
 use Rattle.step_rules.specs.Answers.{ownRefusal, kindRefusal, stateRefusal, streamEnded, forwarding, stepOutcome, accepts, refuses, stepEffect}
 use Rattle.step_rules.proofs.Answers.{own-accepted, own-refused}
 use Rattle.step_rules.proofs.Ports.{forwarded-decoded, written-forwarded, board-port, register-decoded, idle-decoded, refused-below, refused-between, refused-above}

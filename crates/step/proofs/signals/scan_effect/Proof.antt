@@ -1,6 +1,6 @@
 -- The record as the scan leaves it.
 -- Assumes nothing.
-use mathlib.Core.Path.{refl, _∙_, ap}
+use mathlib.Core.Path.{refl, _∙_}
 use denote.Ref.{now}
 use Rattle.board.specs.Record.{firstRefusal}
 use Rattle.step_rules.specs.Answers.{ownRefusal, kindRefusal, stateRefusal, streamEnded, stepOutcome}

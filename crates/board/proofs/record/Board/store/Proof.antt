@@ -3,8 +3,8 @@
 use mathlib.Core.Path.{_≡_, sym, _∙_, ap}
 use borrow.Author.Tests.{eqb-false}
 use denote.Ref.{now}
-use lib.Dec.{eqb, leb}
-use lib.ListN.{getD, set}
+use lib.Dec.{leb}
+use lib.ListN.{getD}
 use mir.Val.{Fits}
 use mir.Syntax.{w8}
 use Rattle.facts.proofs.Bools.{or-second}
