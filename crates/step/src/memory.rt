@@ -6,9 +6,8 @@ ghost use Rattle.paging.specs.Memory.{readIndex};
 ghost use Rattle.step_rules.specs.Answers.{stepEffect, effectRam};
 ghost use Rattle.step.specs.Plain.{plainEffect};
 use crate::effects::accepts;
-use crate::effects::giving;
+use crate::effects::gives;
 use crate::effects::refuses;
-use crate::effects::silent;
 use board::Board;
 use paging::byte_at;
 use paging::index;
@@ -31,7 +30,7 @@ pub(crate) fn fetch_effect(b: Board, address: u16, ram: &[u8], boot: &[u8]) -> E
     ensures { λ r. ⌜ r ≡ plainEffect b (now (ram .entry)) (now (boot .entry)) (Step.Fetch address) ⌝ }
 {
     if b.boot.mode != 1 {
-        return accepts(b, giving(read_byte(b, address, ram)));
+        return gives(b, read_byte(b, address, ram));
     }
     let at = b.boot.at as usize;
     if boot.len() <= at {
@@ -40,14 +39,14 @@ pub(crate) fn fetch_effect(b: Board, address: u16, ram: &[u8], boot: &[u8]) -> E
     let next = b.boot.at + 1;
     let mut after = b;
     after.boot.at = next;
-    accepts(after, giving(boot[at]))
+    gives(after, boot[at])
 }
 
 pub(crate) fn read_effect(b: Board, address: u16, ram: &[u8], boot: &[u8]) -> Effect
     ensures { λ r. ⌜ r ≡ plainEffect b (now (ram .entry)) (now (boot .entry)) (Step.Read address) ⌝ }
 {
     let byte = read_byte(b, address, ram);
-    accepts(b, giving(byte))
+    gives(b, byte)
 }
 
 // A byte stored; past the end nothing is.
@@ -69,7 +68,7 @@ pub(crate) fn write_effect(b: Board, address: u16, value: u8, ram: &mut [u8], bo
     let stored = index(reach.write, reach.place);
     let written = b.store(ram, marked, value);
     put(ram, stored, value);
-    accepts(written, silent())
+    accepts(written)
 }
 
 // A byte from the keyboard, at an offset from 0 to 15.
@@ -81,5 +80,5 @@ pub(crate) fn key_effect(b: Board, offset: u8, value: u8, ram: &mut [u8], boot: 
     }
     let keyed = b.key(ram, offset, value);
     put(ram, keyboard_index(offset), value);
-    accepts(keyed, silent())
+    accepts(keyed)
 }

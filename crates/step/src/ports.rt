@@ -5,10 +5,9 @@ ghost use Rattle.step_rules.specs.Ports.{forwardedOut, statusByte};
 ghost use Rattle.step_rules.specs.Answers.{stepEffect};
 ghost use Rattle.step.specs.Plain.{plainEffect};
 use crate::effects::accepts;
-use crate::effects::forwarding;
-use crate::effects::giving;
+use crate::effects::forwards;
+use crate::effects::gives;
 use crate::effects::refuses;
-use crate::effects::silent;
 use board::Board;
 use step_rules::Effect;
 use step_rules::Step;
@@ -42,18 +41,18 @@ pub(crate) fn port_in_effect(b: Board, port: u8, ram: &[u8], boot: &[u8]) -> Eff
     ensures { λ r. ⌜ r ≡ plainEffect b (now (ram .entry)) (now (boot .entry)) (Step.PortIn port) ⌝ }
 {
     match port {
-        0x00 => accepts(b, forwarding(true)),
+        0x00 => forwards(b),
         0xf4 | 0xf8 => {
             let byte = status(b);
             let mut after = b;
             if port == 0xf4 {
                 after.clock.counter = 0;
             }
-            accepts(after, giving(byte))
+            gives(after, byte)
         }
         _ => {
             if is_forwarded(port) {
-                accepts(b, forwarding(true))
+                forwards(b)
             } else {
                 refuses(b, 5)
             }
@@ -65,11 +64,11 @@ pub(crate) fn port_out_effect(b: Board, port: u8, value: u8, ram: &[u8], boot: &
     ensures { λ r. ⌜ r ≡ stepEffect b (now (ram .entry)) (now (boot .entry)) (Step.PortOut port value) ⌝ }
 {
     if is_forwarded(port) {
-        return accepts(b, forwarding(true));
+        return forwards(b);
     }
     match port {
-        0xf0..=0xf8 => accepts(b.out(port, value), silent()),
-        0xfa..=0xfb => accepts(b, silent()),
+        0xf0..=0xf8 => accepts(b.out(port, value)),
+        0xfa..=0xfb => accepts(b),
         _ => refuses(b, 5),
     }
 }

@@ -2,7 +2,6 @@
 ghost use mathlib.Core.Path.{_≡_};
 ghost use Rattle.step.specs.Plain.{plainEffect};
 use crate::effects::accepts;
-use crate::effects::silent;
 use board::Board;
 use step_rules::Effect;
 use step_rules::Step;
@@ -11,7 +10,7 @@ use step_rules::Step;
 pub(crate) fn scan_effect(b: Board, ram: &[u8], boot: &[u8]) -> Effect
     ensures { λ r. ⌜ r ≡ plainEffect b (now (ram .entry)) (now (boot .entry)) Step.Scan ⌝ }
 {
-    accepts(b.scan(), silent())
+    accepts(b.scan())
 }
 
 pub(crate) fn disc_line_effect(b: Board, on: bool, ram: &[u8], boot: &[u8]) -> Effect
@@ -20,7 +19,7 @@ pub(crate) fn disc_line_effect(b: Board, on: bool, ram: &[u8], boot: &[u8]) -> E
     let line = on as u8;
     let mut after = b;
     after.disc.line = line;
-    accepts(after, silent())
+    accepts(after)
 }
 
 pub(crate) fn external_line_effect(b: Board, on: bool, ram: &[u8], boot: &[u8]) -> Effect
@@ -29,5 +28,5 @@ pub(crate) fn external_line_effect(b: Board, on: bool, ram: &[u8], boot: &[u8]) 
     let line = on as u8;
     let mut after = b;
     after.external = line;
-    accepts(after, silent())
+    accepts(after)
 }

@@ -7,11 +7,8 @@ use Rattle.step.proofs.effects.refuses.Tie as tie
 by-fields-requires : tie.Need-by-fields-requires
 by-fields-requires c κs = search needs
 
-silent-requires : tie.Need-silent-requires
-silent-requires c κs = search needs
-
 returns : tie.Need-returns
-returns c = rw (c .before .by-fields .ensures, c .silent .ensures)
+returns c = rw (c .by-fields .ensures)
 
 pub refuses-spec : {M : Type 1} → statement M
-refuses-spec = tie.close (tie.spec by-fields-requires silent-requires returns)
+refuses-spec = tie.close (tie.spec by-fields-requires returns)

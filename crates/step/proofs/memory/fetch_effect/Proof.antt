@@ -19,21 +19,18 @@ use Rattle.step.proofs.memory.fetch_effect.Tie as tie
 read-byte-requires : tie.Need-read-byte-requires
 read-byte-requires c κs = search needs
 
-giving-requires : tie.Need-giving-requires
-giving-requires c κs = search needs
-
-accepts-requires : tie.Need-accepts-requires
-accepts-requires c κs = search needs
+gives-requires : tie.Need-gives-requires
+gives-requires c κs = search needs
 
 returns : tie.Need-returns
 unfolding ownRefusal kindRefusal stateRefusal streamEnded firstRefusal stepOutcome fetchedByte
 returns c =
-    let t = c .before .before .before in
+    let t = c .before .before in
     let s = t .before .before .before .before in
     let m : eqb (s .args .b .boot .mode) 1 ≡ false = ne-eqb (s .args .b .boot .mode) 1 (t .if1 .taken) in
-    c .accepts .ensures
+    c .gives .ensures
     ∙ plain-accepts (s .args .b) (now (s .args .ram)) (now (s .args .boot)) (Fetch (s .args .address)) _ _ (rw m) (rw m)
-    (c .before .giving .ensures ∙ ap giving (c .before .before .read-byte .ensures ∙ rw m))
+    (ap giving (c .before .read-byte .ensures ∙ rw m))
 
 cast-at : tie.Need-cast-at
 cast-at c = search needs
@@ -56,40 +53,35 @@ returns-2 c =
 add-next : tie.Need-add-next
 add-next c = search needs
 
-shared-slice-read-giving : tie.Need-shared-slice-read-giving
-shared-slice-read-giving c = search needs
+shared-slice-read-gives : tie.Need-shared-slice-read-gives
+shared-slice-read-gives c = search needs
 
-giving-requires-2 : tie.Need-giving-requires-2
-giving-requires-2 c κs = search needs
-
-accepts-requires-2 : tie.Need-accepts-requires-2
-accepts-requires-2 c κs = search needs
+gives-requires-2 : tie.Need-gives-requires-2
+gives-requires-2 c κs = search needs
 
 returns-3 : tie.Need-returns-3
 unfolding ownRefusal kindRefusal stateRefusal streamEnded firstRefusal stepOutcome fetchedByte
 returns-3 c =
-    let e = c .before .before .before .before .before in
+    let e = c .before .before .before .before in
     let f = e .before .before in
     let s = f .before .before .before .before in
     let m : eqb (s .args .b .boot .mode) 1 ≡ true = eq-eqb (s .args .b .boot .mode) 1 (f .if1 .left) in
     let l = lt-leb (length (now (s .args .boot))) (s .args .b .boot .at) (e .if2 .left) in
-    c .accepts2 .ensures
+    c .gives2 .ensures
     ∙ plain-accepts (s .args .b) (now (s .args .ram)) (now (s .args .boot)) (Fetch (s .args .address)) _ _ (rw (m, l)) (rw m)
-    (c .before .giving2 .ensures ∙ ap giving (rw m))
+    (ap giving (rw m))
 
 pub fetch-effect-spec : {M : Type 1} → statement M
 fetch-effect-spec =
     tie.close
     (tie.spec
     read-byte-requires
-    giving-requires
-    accepts-requires
+    gives-requires
     returns
     cast-at
     refuses-requires
     returns-2
     add-next
-    shared-slice-read-giving
-    giving-requires-2
-    accepts-requires-2
+    shared-slice-read-gives
+    gives-requires-2
     returns-3)

@@ -38,9 +38,6 @@ keyboard-index-requires c κs = search needs
 put-requires : tie.Need-put-requires
 put-requires c κs = search needs
 
-silent-requires : tie.Need-silent-requires
-silent-requires c κs = search needs
-
 accepts-requires : tie.Need-accepts-requires
 accepts-requires c κs = search needs
 
@@ -50,14 +47,14 @@ same-length c = search needs
 returns-2 : tie.Need-returns-2
 unfolding ownRefusal kindRefusal stateRefusal streamEnded firstRefusal stepOutcome boardAfter
 returns-2 c =
-    let p = c .before .before .before .before in
+    let p = c .before .before .before in
     let x = p .before in
     let t = x .before .before in
     let e = t .before .before in
     let s = e .before .before .before in
     let o : leb (s .args .offset) 15 ≡ true = le-leb (s .args .offset) 15 (e .if1 .left) in (
       c .accepts .ensures
-          ∙ rw (c .before .silent .ensures, t .key .ensures) (own-accepted (s .args .b) (now (s .args .ram)) (now (s .args .boot)) (Key (s .args .offset) (s .args .value)) (rw o)),
+          ∙ rw (t .key .ensures) (own-accepted (s .args .b) (now (s .args .ram)) (now (s .args .boot)) (Key (s .args .offset) (s .args .value)) (rw o)),
       p .put .ensures ∙ rw (x .keyboard-index .ensures) (own-ram (s .args .b) (now (s .args .ram)) (now (s .args .boot)) (Key (s .args .offset) (s .args .value)) (rw o)),
     )
 
@@ -70,7 +67,6 @@ key-effect-spec =
     key-requires
     keyboard-index-requires
     put-requires
-    silent-requires
     accepts-requires
     same-length
     returns-2)

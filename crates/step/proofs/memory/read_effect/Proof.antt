@@ -13,18 +13,15 @@ use Rattle.step.proofs.memory.read_effect.Tie as tie
 read-byte-requires : tie.Need-read-byte-requires
 read-byte-requires c κs = search needs
 
-giving-requires : tie.Need-giving-requires
-giving-requires c κs = search needs
-
-accepts-requires : tie.Need-accepts-requires
-accepts-requires c κs = search needs
+gives-requires : tie.Need-gives-requires
+gives-requires c κs = search needs
 
 returns : tie.Need-returns
 unfolding ownRefusal kindRefusal stateRefusal streamEnded firstRefusal stepOutcome
 returns c =
-    let s = c .before .before .before .before .before in
-    c .accepts .ensures
-    ∙ plain-accepts (s .args .b) (now (s .args .ram)) (now (s .args .boot)) (Read (s .args .address)) _ _ refl refl (c .before .giving .ensures ∙ ap giving (c .before .before .read-byte .ensures))
+    let s = c .before .before .before .before in
+    c .gives .ensures
+    ∙ plain-accepts (s .args .b) (now (s .args .ram)) (now (s .args .boot)) (Read (s .args .address)) _ _ refl refl (ap giving (c .before .read-byte .ensures))
 
 pub read-effect-spec : {M : Type 1} → statement M
-read-effect-spec = tie.close (tie.spec read-byte-requires giving-requires accepts-requires returns)
+read-effect-spec = tie.close (tie.spec read-byte-requires gives-requires returns)

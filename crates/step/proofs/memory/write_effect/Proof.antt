@@ -36,9 +36,6 @@ store-requires c κs = search needs
 put-requires : tie.Need-put-requires
 put-requires c κs = search needs
 
-silent-requires : tie.Need-silent-requires
-silent-requires c κs = search needs
-
 accepts-requires : tie.Need-accepts-requires
 accepts-requires c κs = search needs
 
@@ -48,12 +45,12 @@ same-length c = search needs
 returns : tie.Need-returns
 unfolding ownRefusal kindRefusal stateRefusal streamEnded firstRefusal stepOutcome boardAfter
 returns c =
-    let p = c .before .before .before .before in
+    let p = c .before .before .before in
     let t = p .before .before in
     let i = t .before .before in
     let s = i .before .before .before .before .before .before in (
       c .accepts .ensures
-          ∙ rw (c .before .silent .ensures, t .store .ensures, marked i)
+          ∙ rw (t .store .ensures, marked i)
           (own-accepted (s .args .b) (now (s .args .ram)) (now (s .args .boot)) (Write (s .args .address) (s .args .value)) refl),
       p .put .ensures ∙ rw (stored i) (own-ram (s .args .b) (now (s .args .ram)) (now (s .args .boot)) (Write (s .args .address) (s .args .value)) refl),
     )
@@ -67,7 +64,6 @@ write-effect-spec =
     index-requires-2
     store-requires
     put-requires
-    silent-requires
     accepts-requires
     same-length
     returns)

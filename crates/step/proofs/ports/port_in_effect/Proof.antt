@@ -35,29 +35,20 @@ came j =
     let s = j .before .before .before .before .before in
     ⊎-elim (λ w. rw (eq-eqb (s .args .port) 0xF4 (w .0 .taken)) (w .2)) (λ w. rw (ne-eqb (s .args .port) 0xF4 (w .0 .left)) (w .1)) (j .if1 .came)
 
-forwarding-requires : tie.Need-forwarding-requires
-forwarding-requires c κs = search needs
-
-accepts-requires : tie.Need-accepts-requires
-accepts-requires c κs = search needs
+forwards-requires : tie.Need-forwards-requires
+forwards-requires c κs = search needs
 
 status-requires : tie.Need-status-requires
 status-requires c κs = search needs
 
-giving-requires : tie.Need-giving-requires
-giving-requires c κs = search needs
-
-accepts-requires-2 : tie.Need-accepts-requires-2
-accepts-requires-2 c κs = search needs
+gives-requires : tie.Need-gives-requires
+gives-requires c κs = search needs
 
 is-forwarded-requires : tie.Need-is-forwarded-requires
 is-forwarded-requires c κs = search needs
 
-forwarding-requires-2 : tie.Need-forwarding-requires-2
-forwarding-requires-2 c κs = search needs
-
-accepts-requires-3 : tie.Need-accepts-requires-3
-accepts-requires-3 c κs = search needs
+forwards-requires-2 : tie.Need-forwards-requires-2
+forwards-requires-2 c κs = search needs
 
 refuses-requires : tie.Need-refuses-requires
 refuses-requires c κs = search needs
@@ -65,33 +56,33 @@ refuses-requires c κs = search needs
 returns : tie.Need-returns
 unfolding ownRefusal kindRefusal stateRefusal streamEnded firstRefusal stepOutcome portInOutcome decodedIn forwardedIn
 returns c =
-    let s = c .before .before .before .before .before in
-    let k : s .args .port ≡ 0x00 = c .before .before .match .keys1 in
-    c .accepts .ensures
-    ∙ plain-accepts (s .args .b) (now (s .args .ram)) (now (s .args .boot)) (PortIn (s .args .port)) _ _ (rw k) (rw k) (c .before .forwarding .ensures ∙ rw k)
+    let s = c .before .before .before .before in
+    let k : s .args .port ≡ 0x00 = c .before .match .keys1 in
+    c .forwards .ensures
+    ∙ plain-accepts (s .args .b) (now (s .args .ram)) (now (s .args .boot)) (PortIn (s .args .port)) _ _ (rw k) (rw k) (rw k)
 
 returns-2 : tie.Need-returns-2
 returns-2 c =
-    let j = c .before .before in
+    let j = c .before in
     let k = j .before .before in
     let s = k .before .before .before in
-    c .accepts2 .ensures ∙ read s (k .match .keys2) (j .if1 .after) _ (came j) (c .before .giving .ensures ∙ ap giving (j .before .status .ensures))
+    c .gives .ensures ∙ read s (k .match .keys2) (j .if1 .after) _ (came j) (ap giving (j .before .status .ensures))
 
 returns-3 : tie.Need-returns-3
 unfolding ownRefusal kindRefusal stateRefusal streamEnded firstRefusal stepOutcome portInOutcome
 returns-3 c =
-    let d = c .before .before in
+    let d = c .before in
     let k = d .before .before in
     let s = k .before .before .before in
     let m = k .match .rest in
     let h : forwardedOut (s .args .port) ≡ true = sym (d .before .is-forwarded .ensures) ∙ d .if2 .taken in
     let f4 = ne-eqb (s .args .port) 0xF4 (λ z. m .1 (inl z)) in
     let f8 = ne-eqb (s .args .port) 0xF8 (λ z. m .1 (inr z)) in
-    c .accepts3 .ensures
+    c .forwards2 .ensures
     ∙ plain-accepts (s .args .b) (now (s .args .ram)) (now (s .args .boot)) (PortIn (s .args .port)) _ _
     (rw (in-other (s .args .port) (m .0 .1) (λ z. m .1 (inl z)) (λ z. m .1 (inr z)), h))
     (rw f4)
-    (c .before .forwarding2 .ensures ∙ rw (f4, f8, in-forwarded (s .args .port) (m .0 .1), h))
+    (rw (f4, f8, in-forwarded (s .args .port) (m .0 .1), h))
 
 returns-4 : tie.Need-returns-4
 unfolding ownRefusal kindRefusal stateRefusal streamEnded firstRefusal
@@ -110,14 +101,11 @@ pub port-in-effect-spec : {M : Type 1} → statement M
 port-in-effect-spec =
     tie.close
     (tie.spec
-    forwarding-requires
-    accepts-requires
+    forwards-requires
     status-requires
-    giving-requires
-    accepts-requires-2
+    gives-requires
     is-forwarded-requires
-    forwarding-requires-2
-    accepts-requires-3
+    forwards-requires-2
     refuses-requires
     returns
     returns-2

@@ -53,34 +53,25 @@ not-forwarded e = sym (e .before .is-forwarded .ensures) ∙ e .if1 .left
 is-forwarded-requires : tie.Need-is-forwarded-requires
 is-forwarded-requires c κs = search needs
 
-forwarding-requires : tie.Need-forwarding-requires
-forwarding-requires c κs = search needs
-
-accepts-requires : tie.Need-accepts-requires
-accepts-requires c κs = search needs
+forwards-requires : tie.Need-forwards-requires
+forwards-requires c κs = search needs
 
 returns : tie.Need-returns
 returns c =
-    let d = c .before .before in
+    let d = c .before in
     let s = d .before .before .before .before in
     let h : forwardedOut (s .args .port) ≡ true = sym (d .before .is-forwarded .ensures) ∙ d .if1 .taken in
-    c .accepts .ensures
-    ∙ idle s _ (forwarded-decoded (s .args .port) h) (written-forwarded (s .args .b) (s .args .port) (s .args .value) h) (c .before .forwarding .ensures ∙ ap forwarding (sym h))
+    c .forwards .ensures
+    ∙ idle s _ (forwarded-decoded (s .args .port) h) (written-forwarded (s .args .b) (s .args .port) (s .args .value) h) (ap forwarding (sym h))
 
 out-requires : tie.Need-out-requires
 out-requires c κs = search needs
 
-silent-requires : tie.Need-silent-requires
-silent-requires c κs = search needs
+accepts-requires : tie.Need-accepts-requires
+accepts-requires c κs = search needs
 
 accepts-requires-2 : tie.Need-accepts-requires-2
 accepts-requires-2 c κs = search needs
-
-silent-requires-2 : tie.Need-silent-requires-2
-silent-requires-2 c κs = search needs
-
-accepts-requires-3 : tie.Need-accepts-requires-3
-accepts-requires-3 c κs = search needs
 
 refuses-requires : tie.Need-refuses-requires
 refuses-requires c κs = search needs
@@ -88,22 +79,22 @@ refuses-requires c κs = search needs
 returns-2 : tie.Need-returns-2
 unfolding ownRefusal kindRefusal stateRefusal streamEnded firstRefusal stepOutcome boardAfter
 returns-2 c =
-    let o = c .before .before in
+    let o = c .before in
     let s = o .before .before .before .before .before .before .before in
     let lo : 0xF0 ≤ s .args .port = search needs in
     let hi : s .args .port ≤ 0xF8 = search needs in
-    c .accepts2 .ensures
-    ∙ rw (c .before .silent .ensures ∙ ap forwarding (sym (board-port (s .args .port) lo (omega arith))), o .out .ensures (now (s .args .ram)) ∙ registers s)
+    c .accepts .ensures
+    ∙ rw (ap forwarding (sym (board-port (s .args .port) lo (omega arith))), o .out .ensures (now (s .args .ram)) ∙ registers s)
     (own-accepted (s .args .b) (now (s .args .ram)) (now (s .args .boot)) (PortOut (s .args .port) (s .args .value)) (rw (register-decoded (s .args .port) lo hi)))
 
 returns-3 : tie.Need-returns-3
 returns-3 c =
-    let s = c .before .before .before .before .before .before .before .before .before .before in
+    let s = c .before .before .before .before .before .before .before .before .before in
     let lo : 0xFA ≤ s .args .port = search needs in
     let hi : s .args .port ≤ 0xFB = search needs in
-    c .accepts3 .ensures
+    c .accepts2 .ensures
     ∙ idle s _ (idle-decoded (s .args .port) lo hi) (written-past (s .args .b) (s .args .port) (s .args .value) (omega arith))
-    (c .before .silent2 .ensures ∙ ap forwarding (sym (board-port (s .args .port) (omega arith) hi)))
+    (ap forwarding (sym (board-port (s .args .port) (omega arith) hi)))
 
 returns-4 : tie.Need-returns-4
 returns-4 c =
@@ -121,14 +112,11 @@ port-out-effect-spec =
     tie.close
     (tie.spec
     is-forwarded-requires
-    forwarding-requires
-    accepts-requires
+    forwards-requires
     returns
     out-requires
-    silent-requires
+    accepts-requires
     accepts-requires-2
-    silent-requires-2
-    accepts-requires-3
     refuses-requires
     returns-2
     returns-3

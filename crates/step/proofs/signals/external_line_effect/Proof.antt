@@ -13,17 +13,14 @@ use Rattle.step.proofs.signals.external_line_effect.Tie as tie
 cast-line : tie.Need-cast-line
 cast-line c = search needs
 
-silent-requires : tie.Need-silent-requires
-silent-requires c κs = search needs
-
 accepts-requires : tie.Need-accepts-requires
 accepts-requires c κs = search needs
 
 returns : tie.Need-returns
 unfolding ownRefusal kindRefusal stateRefusal streamEnded firstRefusal stepOutcome
 returns c =
-    let s = c .before .before .before .before in
-    c .accepts .ensures ∙ plain-accepts (s .args .b) (now (s .args .ram)) (now (s .args .boot)) (ExternalLine (s .args .on)) _ _ refl refl (c .before .silent .ensures)
+    let s = c .before .before .before in
+    c .accepts .ensures ∙ plain-accepts (s .args .b) (now (s .args .ram)) (now (s .args .boot)) (ExternalLine (s .args .on)) _ _ refl refl refl
 
 pub external-line-effect-spec : {M : Type 1} → statement M
-external-line-effect-spec = tie.close (tie.spec cast-line silent-requires accepts-requires returns)
+external-line-effect-spec = tie.close (tie.spec cast-line accepts-requires returns)

@@ -13,17 +13,14 @@ use Rattle.step.proofs.signals.scan_effect.Tie as tie
 scan-requires : tie.Need-scan-requires
 scan-requires c κs = search needs
 
-silent-requires : tie.Need-silent-requires
-silent-requires c κs = search needs
-
 accepts-requires : tie.Need-accepts-requires
 accepts-requires c κs = search needs
 
 returns : tie.Need-returns
 unfolding ownRefusal kindRefusal stateRefusal streamEnded firstRefusal stepOutcome
 returns c =
-    let s = c .before .before .before .before .before in
-    c .accepts .ensures ∙ plain-accepts (s .args .b) (now (s .args .ram)) (now (s .args .boot)) Scan _ _ refl (c .before .before .scan .ensures) (c .before .silent .ensures)
+    let s = c .before .before .before .before in
+    c .accepts .ensures ∙ plain-accepts (s .args .b) (now (s .args .ram)) (now (s .args .boot)) Scan _ _ refl (c .before .scan .ensures) refl
 
 pub scan-effect-spec : {M : Type 1} → statement M
-scan-effect-spec = tie.close (tie.spec scan-requires silent-requires accepts-requires returns)
+scan-effect-spec = tie.close (tie.spec scan-requires accepts-requires returns)
