@@ -58,7 +58,7 @@ fn put(ram: &mut [u8], at: usize, value: u8)
     }
 }
 
-// The lines are marked by the block that is written, not by the one that is read.
+// No line is drawn from a block past 7. The lines are marked by the block that is written, not by the one that is read.
 pub(crate) fn write_effect(b: Board, address: u16, value: u8, ram: &mut [u8], boot: &[u8]) -> Effect
     ensures { λ r. ⌜ (r ≡ stepEffect b (now (ram .entry)) (now (boot .entry)) (Step.Write address value)) × (now (ram .exit) ≡ effectRam b (now (ram .entry)) (now (boot .entry)) (Step.Write address value)) ⌝ }
 {
@@ -66,6 +66,10 @@ pub(crate) fn write_effect(b: Board, address: u16, value: u8, ram: &mut [u8], bo
     let reach = p.reach(b.sizes, address);
     let marked = index(reach.write, reach.place);
     let stored = index(reach.write, reach.place);
+    if reach.write > 7 {
+        put(ram, stored, value);
+        return accepts(b);
+    }
     let written = b.store(ram, marked, value);
     put(ram, stored, value);
     accepts(written)
