@@ -4,7 +4,7 @@ ghost use Rattle.board.specs.Clock.{frame, nextBeam, scanned};
 use crate::record::Clock;
 
 // Scans in a frame.
-pub fn frame_scans(rate: u8) -> u16
+pub(crate) fn frame_scans(rate: u8) -> u16
     ensures { λ r. ⌜ r ≡ frame rate ⌝ }
 {
     if rate == 50 { 312 } else { 260 }
