@@ -6,7 +6,6 @@ ghost use lib.ListN.{length};
 ghost use Rattle.step_rules.specs.Answers.{lentRefusal, stepEffect, effectRam, stepAnswer, stepRam};
 ghost use Rattle.step_rules.specs.Decoding.{decoded, numbersAnswer, numbersRam};
 
-mod decoding;
 mod effects;
 mod lines;
 mod memory;
@@ -14,7 +13,6 @@ mod ports;
 mod signals;
 
 use board::Board;
-pub use decoding::decode_step;
 use lines::refused;
 use lines::with_interrupt_lines;
 use memory::fetch_effect;
@@ -30,6 +28,7 @@ pub use step_rules::Answer;
 use step_rules::Effect;
 pub use step_rules::Reply;
 pub use step_rules::Step;
+use step_rules::decode_step;
 
 // 1 for a record that is not good, 2 for a RAM or boot stream of the wrong length, 0 otherwise.
 fn lent_refusal(b: Board, ram: usize, boot: usize) -> u8

@@ -1,6 +1,8 @@
-// What a step is given and what it answers. No code: the model of a step is in specs/, and `step` has the operation.
+// What a step is given and what it answers; and a step from plain numbers. The model of a step is in specs/, and `step` has the operation.
+mod numbers;
 
 use board::Board;
+pub use numbers::decode_step;
 
 // A step's kind with its plain arguments: addresses, ports (document 01: channels), offsets and values.
 pub enum Step {

@@ -16,7 +16,7 @@ use crate::tally::Run;
 use libc::STDIN_FILENO;
 use libc::STDOUT_FILENO;
 use step::Step;
-use step::decode_step;
+use step_rules::decode_step;
 
 fn number(label: &[u8], n: u64) {
     io::write_all(STDOUT_FILENO, label);

@@ -28,7 +28,7 @@ fn triple(a: u8, b: u8, c: u8) -> u32 {
 fn take(b: Board, kind: u8, at: u32, value: u8, ram: &mut [u8], boot: &[u8]) -> Answer {
     step::step(
         b,
-        step::decode_step(kind as u32, at, value as u32),
+        step_rules::decode_step(kind as u32, at, value as u32),
         ram,
         boot,
     )

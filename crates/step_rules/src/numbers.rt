@@ -1,7 +1,7 @@
 // A step from plain numbers.
 ghost use mathlib.Core.Path.{_≡_};
 ghost use Rattle.step_rules.specs.Decoding.{inRange, decoded, stepOf};
-use step_rules::Step;
+use crate::Step;
 
 // Whether a kind, from 1 to 9, takes a number and a value; where it takes none, that is 0.
 fn in_range(kind: u32, number: u32, value: u32) -> bool

@@ -5,11 +5,11 @@ use native.Mathlib.Omega.{arith}
 use mathlib.Core.Path.{_≡_, sym, _∙_}
 use mathlib.Core.Bool.{true}
 use borrow.Author.Tests.{not-true, not-false}
 use Rattle.step_rules.specs.Decoding.{largestNumber, largestValue, inRange, stepNamed, decoded, stepOf}
 use Rattle.step_rules.proofs.Decoding.{of-kind, no-kind, number-most, value-most}
 use borrow.Author.Needs.{needs}
-use Rattle.step.proofs.decoding.decode_step.Statement.{statement}
-use Rattle.step.proofs.decoding.decode_step.Tie as tie
+use Rattle.step_rules.proofs.numbers.decode_step.Statement.{statement}
+use Rattle.step_rules.proofs.numbers.decode_step.Tie as tie
 
 -- what is in range at the kind that it is
 known : (e : tie.Else1) (k : ℕ) → e .before .before .args .kind ≡ k → inRange k (e .before .before .args .number) (e .before .before .args .value) ≡ true

@@ -1,10 +1,10 @@
 -- By the kind.
 -- Assumes nothing.
 use mathlib.Core.Path.{sym}
 use Rattle.step_rules.specs.Decoding.{inRange, largestNumber, largestValue}
 use Rattle.step_rules.proofs.Decoding.{no-kind}
-use Rattle.step.proofs.decoding.in_range.Statement.{statement}
-use Rattle.step.proofs.decoding.in_range.Tie as tie
+use Rattle.step_rules.proofs.numbers.in_range.Statement.{statement}
+use Rattle.step_rules.proofs.numbers.in_range.Tie as tie
 
 returns : tie.Need-returns
 unfolding inRange largestNumber largestValue
