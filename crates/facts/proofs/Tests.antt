@@ -77,3 +77,30 @@ every-add p from (suc m) n =
     (ap (λ (b : Bool). p from && b) (every-add p (suc from) m n)
     ∙ sym (and-assoc (p from) (every p (suc from) m) (every p (suc from + m) n))
     ∙ ap (λ (k : ℕ). p from && every p (suc from) m && every p k n) (suc-add from m ∙ sym (add-suc from m)))
+
+-- ---- of all numbers below n
+
+module _ (p : ℕ → Bool) (n : ℕ) where
+  pub below-at : (k : ℕ) → every p 0 n ≡ true → k < n → p k ≡ true
+  below-at k h l = rw zero-add at (every-at p 0 n h k l)
+
+  pub below-all : ((k : ℕ) → k < n → p k ≡ true) → every p 0 n ≡ true
+  below-all h = every-all p 0 n (λ i l. rw zero-add (h i l))
+
+  pub below-fails : (k : ℕ) → k < n → p k ≡ false → every p 0 n ≡ false
+  below-fails k l h = go (every p 0 n) refl
+    where
+      go : (b : Bool) → every p 0 n ≡ b → b ≡ false
+      go true e = let z : p k ≡ true = below-at k e l in cc
+      go false e = refl
+
+pub below-agree : (p q : ℕ → Bool) (n : ℕ) → ((k : ℕ) → k < n → p k ≡ q k) → every p 0 n ≡ every q 0 n
+below-agree p q n h = every-agree p q 0 n (λ i l. rw zero-add (h i l))
+
+-- one number more
+pub below-more : (p : ℕ → Bool) (n : ℕ) → every p 0 n ≡ true → p n ≡ true → every p 0 (n + 1) ≡ true
+below-more p n e h = below-all p (n + 1) (λ k l. go k l (eqb k n) refl)
+  where
+    go : (k : ℕ) → k < n + 1 → (b : Bool) → eqb k n ≡ b → p k ≡ true
+    go k l true q = ap p (eqb-true k n q) ∙ h
+    go k l false q = let z : (k ≡ n → ⊥) = eqb-false k n q in below-at p n k e (omega arith)

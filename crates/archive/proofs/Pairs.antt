@@ -1,0 +1,82 @@
+-- The search for a bench and number: one comparison of a word is one of both numbers; the search from its start, a turn, and its end.
+-- Assumes nothing.
+use Prim.Native.Nat.{ℕ, zero, suc, _+_, _-_, _*_, _≤_, _<_}
+use native.Mathlib.Nat.{add-zero}
+use native.Mathlib.Numerals.{add-one}
+use native.Mathlib.Omega.{arith}
+use mathlib.Core.Path.{_≡_, refl, sym, ap, _∙_}
+use mathlib.Core.Bool.{Bool, true, false, not, cond, _&&_, true≢false}
+use mathlib.Core.List.{List}
+use borrow.Author.Tests.{eq-eqb, eqb-true}
+use lib.Dec.{eqb}
+use Rattle.facts.specs.Tests.{every}
+use Rattle.bytes.specs.Numbers.{at4}
+use Rattle.archive.specs.declared.search.Index.{Index}
+use Rattle.archive.specs.declared.search.Index.the-variants.{At, Nothing}
+use Rattle.archive.specs.Format.{Frame, entryPlace}
+use Rattle.archive.specs.Sound.{benchAt, numberAt, frameAt, hasPair, isNew}
+use Rattle.archive.specs.Answers.{firstOf}
+
+-- ---- one word for two numbers
+
+module _ (a : List ℕ) (j bench number r : ℕ) (word : r ≡ at4 a (20 + 16 * j) + 4294967296 * at4 a (20 + 16 * j + 4)) (low : at4 a (20 + 16 * j) < 4294967296)
+    (small : bench < 4294967296) where
+  pub pair-here : r ≡ bench + 4294967296 * number → hasPair (frameAt a) bench number j ≡ true
+  unfolding hasPair frameAt benchAt numberAt entryPlace
+  pair-here h = rw (eq-eqb (at4 a (20 + 16 * j)) bench (omega arith), eq-eqb (at4 a (20 + 16 * j + 4)) number (omega arith))
+
+  pub pair-not : (r ≡ bench + 4294967296 * number → ⊥) → hasPair (frameAt a) bench number j ≡ false
+  unfolding hasPair frameAt benchAt numberAt entryPlace
+  pair-not h = go (eqb (at4 a (20 + 16 * j)) bench) refl (eqb (at4 a (20 + 16 * j + 4)) number) refl
+    where
+      go : (x : Bool) → eqb (at4 a (20 + 16 * j)) bench ≡ x → (y : Bool) → eqb (at4 a (20 + 16 * j + 4)) number ≡ y → (x && y) ≡ false
+      go true e true f =
+          let s : at4 a (20 + 16 * j) ≡ bench = eqb-true (at4 a (20 + 16 * j)) bench e in
+          let t : at4 a (20 + 16 * j + 4) ≡ number = eqb-true (at4 a (20 + 16 * j + 4)) number f in
+          absurd (h (word ∙ rw (s, t)))
+      go true e false f = refl
+      go false e y f = refl
+
+-- ---- the search
+
+module _ (p : ℕ → Bool) where
+  pub first-start : (n : ℕ) → firstOf p 0 n ≡ firstOf p 0 (n - 0)
+  first-start n = let z : n - 0 ≡ n = omega arith in rw z
+
+  pub first-here : (n j : ℕ) → j < n → p j ≡ true → firstOf p j (n - j) ≡ At j
+  unfolding firstOf
+  first-here n j l h = let z : n - j ≡ suc (n - j - 1) = omega arith in rw (z, h)
+
+  pub first-next : (n j : ℕ) → j < n → p j ≡ false → firstOf p j (n - j) ≡ firstOf p (j + 1) (n - (j + 1))
+  unfolding firstOf
+  first-next n j l h =
+      let z : n - j ≡ suc (n - (j + 1)) = omega arith in
+      rw (z, h, add-one)
+
+  pub first-end : (n j : ℕ) → n ≤ j → firstOf p j (n - j) ≡ Nothing
+  unfolding firstOf
+  first-end n j l = let z : n - j ≡ 0 = omega arith in rw z
+
+abbrev isNothing : Index → Bool
+isNothing (At k) = false
+isNothing Nothing = true
+
+first-nothing : (p : ℕ → Bool) (from n : ℕ) → isNothing (firstOf p from n) ≡ every (λ (j : ℕ). not (p j)) from n
+unfolding firstOf every
+first-nothing p from zero = refl
+first-nothing p from (suc n) = go (p from) (first-nothing p (suc from) n)
+  where
+    go : (x : Bool) → isNothing (firstOf p (suc from) n) ≡ every (λ (j : ℕ). not (p j)) (suc from) n
+        → isNothing (cond x (At from) (firstOf p (suc from) n)) ≡ (not x && every (λ (j : ℕ). not (p j)) (suc from) n)
+    go true h = refl
+    go false h = h
+
+-- a pair is new exactly if the search finds nothing
+module _ (f : ℕ → Frame) (bench number n : ℕ) (i : Index) (is : i ≡ firstOf (hasPair f bench number) 0 n) where
+  pub found-there : (k : ℕ) → i ≡ At k → false ≡ isNew f bench number n
+  unfolding isNew
+  found-there k e = ap isNothing (sym e ∙ is) ∙ first-nothing (hasPair f bench number) 0 n
+
+  pub found-none : i ≡ Nothing → true ≡ isNew f bench number n
+  unfolding isNew
+  found-none e = ap isNothing (sym e ∙ is) ∙ first-nothing (hasPair f bench number) 0 n

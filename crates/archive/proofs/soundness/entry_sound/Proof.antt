@@ -1,0 +1,76 @@
+use Rattle.archive.proofs.Tests.{row-fails, row-known, rest-fails, row-sound}
+use native.Mathlib.Omega.{arith}
+use borrow.Author.Needs.{needs}
+use Rattle.archive.proofs.soundness.entry_sound.Statement.{statement}
+use Rattle.archive.proofs.soundness.entry_sound.Tie as tie
+
+read-entry-requires : tie.Need-read-entry-requires
+read-entry-requires c κs = search needs
+
+mul-entry-good : tie.Need-mul-entry-good
+mul-entry-good c = search needs
+
+add-entry-good : tie.Need-add-entry-good
+add-entry-good c = search needs
+
+mul-entry-good-2 : tie.Need-mul-entry-good-2
+mul-entry-good-2 c = search needs
+
+add-entry-good-2 : tie.Need-add-entry-good-2
+add-entry-good-2 c = search needs
+
+entry-good-requires : tie.Need-entry-good-requires
+entry-good-requires c κs = search needs
+
+returns : tie.Need-returns
+returns c = row-fails _ _ _ _ _ (c .before .before .before .before .pre .0) (c .before .before .read-entry .ensures) (c .before .entry-good .ensures) (c .if1 .taken)
+
+cast-used : tie.Need-cast-used
+cast-used c = search needs
+
+mul-used : tie.Need-mul-used
+mul-used c = search needs
+
+cast-words-zero : tie.Need-cast-words-zero
+cast-words-zero c = search needs
+
+add-words-zero : tie.Need-add-words-zero
+add-words-zero c = search needs
+
+sub-words-zero : tie.Need-sub-words-zero
+sub-words-zero c = let s = row-known _ _ _ _ _ (c .before .before .before .before .before .before .pre .0) (c .before .before .before .before .read-entry .ensures) (c .before .before .before .entry-good .ensures) (c .before .before .if1 .left) in omega arith
+
+words-zero-requires : tie.Need-words-zero-requires
+words-zero-requires c κs = let s = row-known _ _ _ _ _ (c .before .before .before .before .before .before .pre .0) (c .before .before .before .before .read-entry .ensures) (c .before .before .before .entry-good .ensures) (c .before .before .if1 .left) in omega arith
+
+returns-2 : tie.Need-returns-2
+returns-2 c = let p = c .before .before .before .before .before in
+    rest-fails _ _ _ _ _ (p .before .before .before .pre .0) (p .before .read-entry .ensures) (p .entry-good .ensures) (c .before .before .before .before .if1 .left) _ (c .before .words-zero .ensures) (c .if2 .taken)
+
+is-new-requires : tie.Need-is-new-requires
+is-new-requires c κs = search needs
+
+returns-3 : tie.Need-returns-3
+returns-3 c = let p = c .before .before .before .before .before .before in
+    row-sound _ _ _ _ _ (p .before .before .before .pre .0) (p .before .read-entry .ensures) (p .entry-good .ensures) (c .before .before .before .before .before .if1 .left) _ (c .before .before .words-zero .ensures) (c .before .if2 .left) _ (c .is-new .ensures)
+
+pub entry-sound-spec : {M : Type 1} → statement M
+entry-sound-spec =
+    tie.close
+    (tie.spec
+    read-entry-requires
+    mul-entry-good
+    add-entry-good
+    mul-entry-good-2
+    add-entry-good-2
+    entry-good-requires
+    returns
+    cast-used
+    mul-used
+    cast-words-zero
+    add-words-zero
+    sub-words-zero
+    words-zero-requires
+    returns-2
+    is-new-requires
+    returns-3)
