@@ -3,12 +3,14 @@
 use Prim.Native.Nat.{ℕ, _+_, _*_, _≤_, _<_}
 use native.Mathlib.Omega.{arith}
 use mathlib.Core.Path.{_≡_, refl, sym, ap, _∙_}
-use mathlib.Core.Bool.{Bool, true, false, not, _&&_, and-false}
+use mathlib.Core.Bool.{Bool, true, false, cond, not}
 use mathlib.Core.List.{List}
-use borrow.Author.Tests.{lt-ltb, le-ltb, le-leb, lt-leb, not-true, not-false}
-use lib.Dec.{leb}
+use borrow.Author.Tests.{eqb-true, ltb-true, lt-ltb, le-ltb, le-leb, lt-leb, not-true, not-false}
+use lib.Dec.{eqb, ltb}
 use lib.ListN.{length}
 use Rattle.archive.specs.declared.numbers.Entry.{Entry}
+use Rattle.archive.specs.declared.EntryRead.{EntryRead}
+use Rattle.archive.specs.declared.Found.{Found}
 use Rattle.archive.specs.declared.search.Index.{Index}
 use Rattle.archive.specs.declared.search.Index.the-variants.{Nothing}
 use Rattle.archive.specs.Sound.{countOf, entryOf, frameAt, goodBench, goodShown, hasPair, sound}
@@ -28,6 +30,9 @@ module _ (a : List ℕ) (k : ℕ) where
   pub there : 36 + 16 * k ≤ length a → (e : Entry) → e ≡ entryOf a k → e ≡ entryAt a k
   unfolding entryAt
   there h e is = rw (le-leb (36 + 16 * k) (length a) h) is
+
+  pub entry-there : 36 + 16 * k ≤ length a → entryAt a k ≡ entryOf a k
+  entry-there h = sym (there h (entryOf a k) refl)
 
   pub not-there : length a < 36 + 16 * k → noEntry ≡ entryAt a k
   unfolding entryAt
@@ -65,3 +70,48 @@ module _ (a : List ℕ) (g : Bool) (is : g ≡ sound a) where
       → record { index = i; refusal = 0 } ≡ findAnswer a bench number
   unfolding findAnswer
   find-done h n bench number at i e = rw (← is, not-false g h, ← at, e)
+
+-- an entry that is given
+pub record EntryGiven (a : List ℕ) (k : ℕ) : Type 0 where
+  pub is-sound : sound a ≡ true
+  pub below : k < countOf a
+  pub given : entryAnswer a k ≡ record { entry = entryOf a k; refusal = 0 }
+
+refusal-is : (a : List ℕ) (k : ℕ) → entryAnswer a k .refusal ≡ entryRefusal a k
+unfolding entryAnswer
+refusal-is a k = go (eqb (entryRefusal a k) 0) refl
+  where
+    go : (x : Bool) → eqb (entryRefusal a k) 0 ≡ x
+        → (cond {A = EntryRead} x (record { entry = entryOf a k; refusal = 0 }) (record { entry = noEntry; refusal = entryRefusal a k })) .refusal ≡ entryRefusal a k
+    go true e = sym (eqb-true (entryRefusal a k) 0 e)
+    go false e = refl
+
+pub entry-given : (a : List ℕ) (k : ℕ) → entryAnswer a k .refusal ≡ 0 → EntryGiven a k
+unfolding entryAnswer entryRefusal
+entry-given a k z = go (sound a) refl (ltb k (countOf a)) refl (sym (refusal-is a k) ∙ z)
+  where
+    go : (x : Bool) → sound a ≡ x → (y : Bool) → ltb k (countOf a) ≡ y → _≡_ {A = ℕ} (cond x (cond y 0 11) 10) 0 → EntryGiven a k
+    go true p true q h = record { is-sound = p; below = ltb-true k (countOf a) q; given = rw (p, q) }
+    go true p false q h = absurd (omega arith)
+    go false p y q h = absurd (omega arith)
+
+-- what a find that is answered tells, and one that is refused
+module _ (a : List ℕ) (bench number : ℕ) (f : Found) (is : f ≡ findAnswer a bench number) where
+  by-soundness : (x : Bool) → sound a ≡ x
+      → f ≡ cond {A = Found} x (record { index = firstOf (hasPair (frameAt a) bench number) 0 (countOf a); refusal = 0 }) (record { index = Nothing; refusal = 10 })
+  unfolding findAnswer
+  by-soundness x e = is ∙ rw e
+
+  pub find-given : f .refusal ≡ 0 → (sound a ≡ true) × (f .index ≡ firstOf (hasPair (frameAt a) bench number) 0 (countOf a))
+  find-given z = go (sound a) refl
+    where
+      go : (x : Bool) → sound a ≡ x → (sound a ≡ true) × (f .index ≡ firstOf (hasPair (frameAt a) bench number) 0 (countOf a))
+      go true e = (e, ap (λ (g : Found). g .index) (by-soundness true e))
+      go false e = let t : f .refusal ≡ 10 = ap (λ (g : Found). g .refusal) (by-soundness false e) in absurd (omega arith)
+
+  pub find-refused : (f .refusal ≡ 0 → ⊥) → sound a ≡ false
+  find-refused n = go (sound a) refl
+    where
+      go : (x : Bool) → sound a ≡ x → x ≡ false
+      go true e = absurd (n (ap (λ (g : Found). g .refusal) (by-soundness true e)))
+      go false e = refl
