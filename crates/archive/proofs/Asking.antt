@@ -1,6 +1,7 @@
 -- What count, entry and find answer, rung by rung.
 -- Assumes nothing.
 use Prim.Native.Nat.{ℕ, _+_, _*_, _≤_, _<_}
+use native.Mathlib.Nat.{zero-add}
 use native.Mathlib.Omega.{arith}
 use mathlib.Core.Path.{_≡_, refl, sym, ap, _∙_}
 use mathlib.Core.Bool.{Bool, true, false, cond, not}
@@ -12,9 +13,10 @@ use Rattle.archive.specs.declared.numbers.Entry.{Entry}
 use Rattle.archive.specs.declared.EntryRead.{EntryRead}
 use Rattle.archive.specs.declared.Found.{Found}
 use Rattle.archive.specs.declared.search.Index.{Index}
-use Rattle.archive.specs.declared.search.Index.the-variants.{Nothing}
+use Rattle.archive.specs.declared.search.Index.the-variants.{At, Nothing}
 use Rattle.archive.specs.Sound.{countOf, entryOf, frameAt, goodBench, goodShown, hasPair, sound}
 use Rattle.archive.specs.Answers.{noEntry, entryAt, goodFields, countAnswer, entryRefusal, entryAnswer, firstOf, findAnswer}
+use Rattle.archive.proofs.Pairs.{nothing-at, first-at}
 use Rattle.archive.proofs.Read.{SoundIs, sound-is}
 
 module _ (bench shown : ℕ) (g : Bool) (is : g ≡ goodBench bench) where
@@ -77,7 +79,7 @@ pub record EntryGiven (a : List ℕ) (k : ℕ) : Type 0 where
   pub below : k < countOf a
   pub given : entryAnswer a k ≡ record { entry = entryOf a k; refusal = 0 }
 
-refusal-is : (a : List ℕ) (k : ℕ) → entryAnswer a k .refusal ≡ entryRefusal a k
+pub refusal-is : (a : List ℕ) (k : ℕ) → entryAnswer a k .refusal ≡ entryRefusal a k
 unfolding entryAnswer
 refusal-is a k = go (eqb (entryRefusal a k) 0) refl
   where
@@ -115,3 +117,19 @@ module _ (a : List ℕ) (bench number : ℕ) (f : Found) (is : f ≡ findAnswer 
       go : (x : Bool) → sound a ≡ x → x ≡ false
       go true e = absurd (n (ap (λ (g : Found). g .refusal) (by-soundness true e)))
       go false e = refl
+
+-- "A bench and frame number pair stands once": what a find gives is an entry with that pair
+pub record FoundAt (a : List ℕ) (bench number k : ℕ) : Type 0 where
+  pub is-sound : sound a ≡ true
+  pub below : k < countOf a
+  pub pair : hasPair (frameAt a) bench number k ≡ true
+
+pub found-at : (a : List ℕ) (bench number k : ℕ) → findAnswer a bench number .index ≡ At k → FoundAt a bench number k
+unfolding findAnswer
+found-at a bench number k = go (sound a) refl
+  where
+    go : (x : Bool) → sound a ≡ x
+        → (cond {A = Found} x (record { index = firstOf (hasPair (frameAt a) bench number) 0 (countOf a); refusal = 0 }) (record { index = Nothing; refusal = 10 })) .index ≡ At k
+        → FoundAt a bench number k
+    go true s e = let h = rw zero-add at (first-at (hasPair (frameAt a) bench number) 0 (countOf a) k e) in record { is-sound = s; below = h .0; pair = h .1 }
+    go false s e = absurd (nothing-at k e)

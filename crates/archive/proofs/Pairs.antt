@@ -80,3 +80,21 @@ module _ (f : ℕ → Frame) (bench number n : ℕ) (i : Index) (is : i ≡ firs
   pub found-none : i ≡ Nothing → true ≡ isNew f bench number n
   unfolding isNew
   found-none e = ap isNothing (sym e ∙ is) ∙ first-nothing (hasPair f bench number) 0 n
+
+-- what the search finds
+pub nothing-at : (k : ℕ) → _≡_ {A = Index} Nothing (At k) → ⊥
+nothing-at k e = true≢false (ap isNothing e)
+
+pub first-at : (p : ℕ → Bool) (from n k : ℕ) → firstOf p from n ≡ At k → (k < from + n) × (p k ≡ true)
+unfolding firstOf
+first-at p from zero k e = absurd (nothing-at k e)
+first-at p from (suc n) k e = go (p from) refl e (λ h. first-at p (suc from) n k h)
+  where
+    at : Index → ℕ
+    at (At j) = j
+    at Nothing = 0
+
+    go : (x : Bool) → p from ≡ x → cond x (At from) (firstOf p (suc from) n) ≡ At k → (firstOf p (suc from) n ≡ At k → (k < suc from + n) × (p k ≡ true))
+        → (k < from + suc n) × (p k ≡ true)
+    go true h g t = let z : from ≡ k = ap at g in (omega arith, ap p (sym z) ∙ h)
+    go false h g t = let r = t g in (omega (arith, r .0), r .1)
