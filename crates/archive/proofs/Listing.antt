@@ -9,7 +9,7 @@ use lib.Dec.{eqb, ltb}
 use lib.ListN.{length, getD, length-append, List·getD-append}
 use lib.Seq.{getD-at, ext-getD}
 use Rattle.facts.proofs.Tests.{below-agree}
-use Rattle.bytes.proofs.Rows.{rows-same}
+use Rattle.byte_rows.proofs.Rows.{rows-same}
 use Rattle.archive.specs.Format.{Frame, noFrame, frameIn, listing, entryRow, pictureRow, written}
 use Rattle.archive.specs.Sound.{hasPair, isNew, fresh}
 

@@ -10,7 +10,7 @@ use mathlib.Core.List.{List}
 use borrow.Author.Tests.{eq-eqb, eqb-true}
 use lib.Dec.{eqb}
 use Rattle.facts.specs.Tests.{every}
-use Rattle.bytes.specs.Numbers.{at4}
+use Rattle.byte_rows.specs.Numbers.{at4}
 use Rattle.archive.specs.declared.search.Index.{Index}
 use Rattle.archive.specs.declared.search.Index.the-variants.{At, Nothing}
 use Rattle.archive.specs.Format.{Frame, entryPlace}

@@ -11,11 +11,11 @@ use lib.Seq.{length-take-le}
 use Rattle.facts.specs.Tests.{every}
 use Rattle.facts.proofs.Tests.{below-at, below-all}
 use Rattle.facts.proofs.Bools.{both}
-use Rattle.bytes.proofs.Rows.{three-parts, rows-take, zeros-behind}
+use Rattle.byte_rows.proofs.Rows.{three-parts, rows-take, zeros-behind}
 use Rattle.archive.specs.Format.{shownOf, header, entry, entryPlace, picturePlace, entryRow, pictureRow, written, frameIn, archiveOf}
 use Rattle.archive.specs.Sound.{countOf, benchAt, numberAt, shownAt, offsetAt, linesAt, frameAt, framesOf, fresh, goodShown, goodBench, headerGood, headerOf, entryGood, entryOf, headerSound, isZero, restZero, entrySound, sound, frameGood, frameStorable, storable}
-use Rattle.bytes.specs.Numbers.{number4, at4}
-use Rattle.bytes.proofs.Numbers.{number-more, at-small}
+use Rattle.byte_rows.specs.Numbers.{number4, at4}
+use Rattle.byte_rows.proofs.Numbers.{number-more, at-small}
 use Rattle.archive.proofs.Listing.{listing-length, listing-at, archive-same, fresh-same}
 use Rattle.archive.proofs.Written.{shown-most}
 

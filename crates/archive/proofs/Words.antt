@@ -10,7 +10,7 @@ use lib.Dec.{eqb, ltb}
 use lib.ListN.{getD}
 use Rattle.facts.specs.Tests.{every}
 use Rattle.facts.proofs.Tests.{below-at, below-all}
-use Rattle.bytes.specs.Numbers.{at4}
+use Rattle.byte_rows.specs.Numbers.{at4}
 use Rattle.archive.specs.Sound.{isZero, goodShown}
 
 zero-four : (a : List ℕ) (p j : ℕ) → at4 a p ≡ 0 → j < 4 → getD a (p + j) 0 ≡ 0

@@ -12,13 +12,13 @@ use lib.Seq.{take-at, getD-append-add, getD-drop}
 use Rattle.facts.specs.Tests.{every}
 use Rattle.facts.proofs.Tests.{below-at, below-all}
 use Rattle.facts.proofs.Bools.{both}
-use Rattle.bytes.specs.Rows.{rows, zeros}
-use Rattle.bytes.proofs.Rows.{drop-past, rows-length, rows-at, zeros-length, zeros-at}
+use Rattle.byte_rows.specs.Rows.{rows, zeros}
+use Rattle.byte_rows.proofs.Rows.{drop-past, rows-length, rows-at, zeros-length, zeros-at}
 use Rattle.archive.specs.Format.{Frame, shownOf, header, entry, entryPlace, picturePlace, entryRow, pictureRow, written, frameIn, listing, archiveOf}
 use Rattle.archive.specs.Sound.{countOf, benchAt, numberAt, shownAt, offsetAt, linesAt, frameAt, framesOf, fresh, goodShown, goodBench, headerGood, headerOf, entryGood, entryOf, headerSound, isZero, restZero, entrySound, sound, frameGood, frameStorable, storable}
-use Rattle.bytes.specs.Numbers.{number4, at4}
+use Rattle.byte_rows.specs.Numbers.{number4, at4}
 use Rattle.archive.proofs.Listing.{listing-same, listing-back, fresh-same}
-use Rattle.bytes.proofs.Numbers.{whole, at-drop}
+use Rattle.byte_rows.proofs.Numbers.{whole, at-drop}
 
 -- what is known of a frame that can be stored
 pub record Good (f : Frame) : Type 0 where

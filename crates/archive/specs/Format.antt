@@ -2,8 +2,8 @@
 use Prim.Native.Nat.{ℕ, zero, suc, _+_, _-_, _*_, _/_}
 use mathlib.Core.List.{List, [], _∷_, _++_}
 use lib.ListN.{length, getD}
-use Rattle.bytes.specs.Rows.{rows, zeros}
-use Rattle.bytes.specs.Numbers.{number4}
+use Rattle.byte_rows.specs.Rows.{rows, zeros}
+use Rattle.byte_rows.specs.Numbers.{number4}
 
 -- "A frame is its bench, number and shown lines": the bytes of these
 pub record Frame : Type 0 where

@@ -5,7 +5,7 @@ use mathlib.Core.List.{List}
 use lib.Dec.{eqb, leb, ltb}
 use lib.ListN.{length, getD, take, drop}
 use Rattle.facts.specs.Tests.{every}
-use Rattle.bytes.specs.Numbers.{at4}
+use Rattle.byte_rows.specs.Numbers.{at4}
 use Rattle.archive.specs.declared.numbers.Header.{Header}
 use Rattle.archive.specs.declared.numbers.Entry.{Entry}
 use Rattle.archive.specs.Format.{Frame, entryPlace, picturePlace, frameIn, listing}

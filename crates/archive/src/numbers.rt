@@ -1,6 +1,6 @@
 // The numbers of a header and of an entry.
 ghost use Prim.Native.Nat.{_+_, _*_, _≤_, _<_};
-ghost use Rattle.bytes.specs.Numbers.{at4};
+ghost use Rattle.byte_rows.specs.Numbers.{at4};
 ghost use Rattle.archive.specs.Sound.{headerOf, entryOf};
 ghost use lib.ListN.{length};
 ghost use mathlib.Core.Path.{_≡_};

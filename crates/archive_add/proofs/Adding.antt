@@ -10,7 +10,7 @@ use lib.Dec.{eqb, ltb, leb}
 use lib.ListN.{length}
 use Rattle.facts.specs.Lists.{inRoom}
 use Rattle.facts.proofs.Bools.{both}
-use Rattle.bytes.specs.Rows.{rows}
+use Rattle.byte_rows.specs.Rows.{rows}
 use Rattle.archive.specs.declared.search.Index.the-variants.{At, Nothing}
 use Rattle.archive.specs.declared.Found.{Found}
 use Rattle.archive.specs.Format.{header, written, archiveOf}

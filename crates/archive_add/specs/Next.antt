@@ -2,7 +2,7 @@
 use Prim.Native.Nat.{ℕ, _+_, _-_, _*_}
 use mathlib.Core.List.{List, _++_}
 use lib.ListN.{take}
-use Rattle.bytes.specs.Rows.{rows, zeros}
+use Rattle.byte_rows.specs.Rows.{rows, zeros}
 use Rattle.archive.specs.Format.{entry, header, picturePlace}
 use Rattle.archive.specs.Sound.{benchAt, numberAt, shownAt}
 

@@ -1,7 +1,7 @@
 // The next archive, put down in lent room: header and entries, the old pictures, the new picture.
 ghost use Prim.Native.Nat.{_+_, _*_, _≤_, _<_};
 ghost use Rattle.facts.specs.Lists.{inRoom};
-ghost use Rattle.bytes.specs.Rows.{put, rows};
+ghost use Rattle.byte_rows.specs.Rows.{put, rows};
 ghost use Rattle.archive.specs.Format.{archiveOf};
 ghost use Rattle.archive.specs.Sound.{countOf, sound, framesOf};
 ghost use Rattle.archive_add.specs.Adding.{frameOf};
@@ -48,7 +48,7 @@ fn put_picture(picture: &[u8], used: usize, out: &mut [u8], to: usize)
     requires { ⌜ to + 23040 ≤ length (now out) ⌝ }
     ensures { λ r. ⌜ now (out .exit) ≡ put (now (out .entry)) to (padded (now (picture .entry)) used) ⌝ }
 {
-    bytes::copy(&picture[..used], out, to);
+    byte_rows::copy(&picture[..used], out, to);
     blank(out, to + used, 23040 - used);
 }
 
@@ -67,7 +67,7 @@ pub(crate) fn put_next(
 {
     put_entries(a, n, bench, number, shown, room);
     let from = 20 + 16 * n;
-    bytes::copy(&a[from..], room, 20 + 16 * (n + 1));
+    byte_rows::copy(&a[from..], room, 20 + 16 * (n + 1));
     put_picture(
         picture,
         shown as usize * 90,

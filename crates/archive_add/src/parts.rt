@@ -1,8 +1,8 @@
 // Numbers and zeros in lent room, and the header and entries made of them.
 ghost use Prim.Native.Nat.{_+_, _*_, _≤_};
 ghost use Rattle.facts.specs.Lists.{inRoom};
-ghost use Rattle.bytes.specs.Numbers.{number4};
-ghost use Rattle.bytes.specs.Rows.{put, zeros};
+ghost use Rattle.byte_rows.specs.Numbers.{number4};
+ghost use Rattle.byte_rows.specs.Rows.{put, zeros};
 ghost use Rattle.archive.specs.Format.{entry, header};
 ghost use lib.ListN.{length};
 ghost use mathlib.Core.Path.{_≡_};

@@ -6,8 +6,8 @@ use mathlib.Core.Path.{_≡_, refl, sym, ap, _∙_}
 use mathlib.Core.List.{List}
 use borrow.Author.Tests.{eq-eqb, ne-eqb}
 use lib.ListN.{length, take, drop}
-use Rattle.bytes.specs.Rows.{copied}
-use Rattle.bytes.proofs.Rows.{put-start, copied-fits}
+use Rattle.byte_rows.specs.Rows.{copied}
+use Rattle.byte_rows.proofs.Rows.{put-start, copied-fits}
 use Rattle.archive.specs.declared.EntryRead.{EntryRead}
 use Rattle.archive.specs.Format.{picturePlace}
 use Rattle.archive.specs.Sound.{countOf, entryOf, shownAt, linesAt}

@@ -25,7 +25,7 @@ pub fn read(a: &[u8], k: u32, picture: &mut [u8]) -> EntryRead
         let e = answer.entry;
         let from = e.offset as usize;
         let end = from + e.shown as usize * 90;
-        bytes::copy(&a[from..end], picture, 0);
+        byte_rows::copy(&a[from..end], picture, 0);
     }
     answer
 }

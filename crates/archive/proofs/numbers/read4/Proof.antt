@@ -1,4 +1,4 @@
-use Rattle.bytes.specs.Numbers.{at4}
+use Rattle.byte_rows.specs.Numbers.{at4}
 use borrow.Author.Needs.{needs}
 use Rattle.archive.proofs.numbers.read4.Statement.{statement}
 use Rattle.archive.proofs.numbers.read4.Tie as tie

@@ -3,7 +3,7 @@
 use Prim.Native.Nat.{_+_, _-_, _≤_}
 use native.Mathlib.Omega.{arith}
 use mathlib.Core.Path.{_≡_, _∙_}
-use Rattle.bytes.specs.Rows.{put, rows}
+use Rattle.byte_rows.specs.Rows.{put, rows}
 use Rattle.archive.proofs.Asking.{entry-there}
 use Rattle.archive_add.specs.Next.{movedRow}
 use Rattle.archive_add.proofs.PutDown.{moved-start, moved-turn, moved-size}

@@ -1,5 +1,5 @@
-use Rattle.bytes.proofs.Rows.{pasted, pasted-start, pasted-length, pasted-turn, pasted-end, zeros-length, zeros-at}
-use Rattle.bytes.specs.Rows.{zeros}
+use Rattle.byte_rows.proofs.Rows.{pasted, pasted-start, pasted-length, pasted-turn, pasted-end, zeros-length, zeros-at}
+use Rattle.byte_rows.specs.Rows.{zeros}
 use Prim.Native.Nat.{_-_, _≤_}
 use mathlib.Core.Path.{_≡_, sym}
 use native.Mathlib.Omega.{arith}

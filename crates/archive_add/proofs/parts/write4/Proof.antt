@@ -1,7 +1,7 @@
 use native.Mathlib.Omega.{arith}
 use lib.ListN.{length-set}
-use Rattle.bytes.specs.Numbers.{number4}
-use Rattle.bytes.proofs.Rows.{put-four}
+use Rattle.byte_rows.specs.Numbers.{number4}
+use Rattle.byte_rows.proofs.Rows.{put-four}
 use borrow.Author.Needs.{needs}
 use Rattle.archive_add.proofs.parts.write4.Statement.{statement}
 use Rattle.archive_add.proofs.parts.write4.Tie as tie

@@ -1,11 +1,11 @@
 -- A copy where it fits, and nothing elsewhere.
 -- Assumes nothing.
-use Rattle.bytes.proofs.Rows.{copied-fits, copied-not}
+use Rattle.byte_rows.proofs.Rows.{copied-fits, copied-not}
 use borrow.Author.Tests.{leb-true}
 use mathlib.Core.Path.{sym, _∙_}
 use borrow.Author.Needs.{needs}
-use Rattle.bytes.proofs.copy.Statement.{statement}
-use Rattle.bytes.proofs.copy.Tie as tie
+use Rattle.byte_rows.proofs.copy.Statement.{statement}
+use Rattle.byte_rows.proofs.copy.Tie as tie
 
 fits-requires : tie.Need-fits-requires
 fits-requires c κs = search needs

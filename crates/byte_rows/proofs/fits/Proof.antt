@@ -1,8 +1,8 @@
 -- A length test without a sum that might be too large.
 -- Assumes nothing.
-use Rattle.bytes.proofs.Rows.{fits-not, fits-test}
-use Rattle.bytes.proofs.fits.Statement.{statement}
-use Rattle.bytes.proofs.fits.Tie as tie
+use Rattle.byte_rows.proofs.Rows.{fits-not, fits-test}
+use Rattle.byte_rows.proofs.fits.Statement.{statement}
+use Rattle.byte_rows.proofs.fits.Tie as tie
 
 returns : tie.Need-returns
 returns c = fits-not _ _ _ (c .if1 .taken)

@@ -1,6 +1,6 @@
 // Bytes in lent memory.
 ghost use Prim.Native.Nat.{_+_, _≤_};
-ghost use Rattle.bytes.specs.Rows.{put, copied};
+ghost use Rattle.byte_rows.specs.Rows.{put, copied};
 ghost use lib.Dec.{leb};
 ghost use lib.ListN.{length};
 ghost use mathlib.Core.Path.{_≡_};

@@ -12,7 +12,7 @@ use lib.Dec.{ltb, leb}
 use lib.ListN.{length, getD, set, take, drop, length-append, length-drop}
 use lib.Seq.{paste, paste-zero, length-paste, paste-suc, sets-eq, take-at, drop-at, take-add, take-length, take-all, take-append-seam, drop-append-add, drop-drop, length-take-le, ext-getD, getD-take, getD-drop}
 use Rattle.facts.specs.Lists.{inRoom}
-use Rattle.bytes.specs.Rows.{rows, zeros, put, copied}
+use Rattle.byte_rows.specs.Rows.{rows, zeros, put, copied}
 
 -- ---- a list behind another
 

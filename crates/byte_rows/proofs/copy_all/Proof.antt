@@ -1,10 +1,10 @@
-use Rattle.bytes.proofs.Rows.{pasted, pasted-start, pasted-length, pasted-turn, pasted-end}
+use Rattle.byte_rows.proofs.Rows.{pasted, pasted-start, pasted-length, pasted-turn, pasted-end}
 use lib.ListN.{length}
 use Prim.Native.Nat.{_-_, _≤_}
 use mathlib.Core.Path.{_≡_, refl}
 use native.Mathlib.Omega.{arith}
-use Rattle.bytes.proofs.copy_all.Statement.{statement}
-use Rattle.bytes.proofs.copy_all.Tie as tie
+use Rattle.byte_rows.proofs.copy_all.Statement.{statement}
+use Rattle.byte_rows.proofs.copy_all.Tie as tie
 
 abbrev Inv-loop : tie.InvT-loop
 Inv-loop src out₀ to i₀ i-end out i = (i ≤ length src) × (out ≡ pasted out₀ to src i)

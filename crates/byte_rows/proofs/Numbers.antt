@@ -7,7 +7,7 @@ use mathlib.Core.Path.{_≡_, refl}
 use mathlib.Core.List.{List, [], _∷_, _++_}
 use lib.ListN.{length, getD, take, drop}
 use lib.Seq.{getD-drop, drop-cons, drop-drop, take-add}
-use Rattle.bytes.specs.Numbers.{number4, at4}
+use Rattle.byte_rows.specs.Numbers.{number4, at4}
 
 pub number-length : (n : ℕ) → length (number4 n) ≡ 4
 unfolding number4
