@@ -2,6 +2,6 @@ pub mod Asking
 pub mod Listing
 pub mod Pairs
 pub mod Read
+pub mod Seen
 pub mod Tests
-pub mod Words
 pub mod Written

@@ -1,6 +1,6 @@
 -- What the tests of the code say of the tests of the rules.
 -- Assumes nothing.
-use Prim.Native.Nat.{ℕ, _+_, _-_, _*_, _/_, _≤_, _<_}
+use Prim.Native.Nat.{ℕ, _+_, _-_, _*_, _≤_, _<_}
 use native.Mathlib.Omega.{arith}
 use mathlib.Core.Path.{_≡_, sym, _∙_}
 use mathlib.Core.Bool.{Bool, true, false, not, _&&_, and-false}
@@ -14,7 +14,6 @@ use Rattle.archive.specs.declared.numbers.Entry.{Entry}
 use Rattle.archive.specs.Format.{picturePlace}
 use Rattle.archive.specs.Sound.{headerSound, sound, entryOf, entryGood, entrySound, goodBench, goodShown, restZero, countOf, isZero, isNew, fresh, frameAt}
 use Rattle.archive.proofs.Read.{HeaderIs, header-is}
-use Rattle.archive.proofs.Words.{whole-words}
 use Rattle.archive.proofs.Written.{shown-most}
 
 -- a search for a test that fails: where it is left, and a turn
@@ -31,27 +30,24 @@ module _ (a : List ℕ) (k n : ℕ) (e : Entry) (g : Bool) (at : n ≡ countOf a
   unfolding entrySound picturePlace
   row-fails h = rw (← is, ← at, ← good, not-true g h)
 
-  row-parts : not g ≡ false → (goodShown (e .shown) ≡ true) × (e .offset ≡ 20 + 16 * n + 23040 * k)
-  unfolding entryGood
-  row-parts h =
-      let t = both (goodBench (e .bench) && goodShown (e .shown)) (eqb (e .offset) (20 + 16 * n + 23040 * k)) (sym good ∙ not-false g h) in
-      (both (goodBench (e .bench)) (goodShown (e .shown)) (t .0) .1, eqb-true (e .offset) (20 + 16 * n + 23040 * k) (t .1))
-
   pub row-known : not g ≡ false → (e .shown ≤ 256) × (e .offset ≡ 20 + 16 * n + 23040 * k)
-  row-known h = let t = row-parts h in (shown-most (e .shown) (t .0), t .1)
+  unfolding entryGood
+  row-known h =
+      let t = both (goodBench (e .bench) && goodShown (e .shown)) (eqb (e .offset) (20 + 16 * n + 23040 * k)) (sym good ∙ not-false g h) in
+      (shown-most (e .shown) (both (goodBench (e .bench)) (goodShown (e .shown)) (t .0) .1), eqb-true (e .offset) (20 + 16 * n + 23040 * k) (t .1))
 
-  module _ (h : not g ≡ false) (t : Bool) (zero : t ≡ every (isZero a (e .offset + e .shown * 90)) 0 (8 * ((23040 - e .shown * 90) / 8))) where
+  module _ (t : Bool) (zero : t ≡ every (isZero a (e .offset + e .shown * 90)) 0 (23040 - e .shown * 90)) where
     rest-is : t ≡ restZero a k
     unfolding restZero entryOf
-    rest-is = zero ∙ rw (whole-words (e .shown) (row-parts h .0)) (rw is)
+    rest-is = zero ∙ rw is
 
     pub rest-fails : not t ≡ true → false ≡ entrySound a k
     unfolding entrySound
     rest-fails i = rw (← rest-is, not-true t i, and-false)
 
-    pub row-sound : not t ≡ false → (f : Bool) → f ≡ isNew (frameAt a) (e .bench) (e .number) k → f ≡ entrySound a k
+    pub row-sound : not g ≡ false → not t ≡ false → (f : Bool) → f ≡ isNew (frameAt a) (e .bench) (e .number) k → f ≡ entrySound a k
     unfolding entrySound picturePlace fresh frameAt entryOf
-    row-sound i f new = rw (← is, ← at, ← good, ← rest-is, not-false g h, not-false t i) (new ∙ rw is)
+    row-sound h i f new = rw (← is, ← at, ← good, ← rest-is, not-false g h, not-false t i) (new ∙ rw is)
 
 -- an archive by its header and its entries
 module _ (a : List ℕ) (g : Bool) (is : g ≡ headerSound a) where

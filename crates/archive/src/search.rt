@@ -26,13 +26,16 @@ pub(crate) fn index_of(a: &[u8], n: usize, bench: u32, number: u32) -> Index
     Index::Nothing
 }
 
-// Whether none of the first n entries has the pair.
+// Whether none of the first n entries has the pair. It is not left early, so that a run takes several entries at once.
 pub(crate) fn is_new(a: &[u8], n: usize, bench: u32, number: u32) -> bool
-    requires { ⌜ (n ≤ 1000) × (20 + 16 * n ≤ length (now a)) ⌝ }
+    requires { ⌜ 20 + 16 * n ≤ length (now a) ⌝ }
     ensures { λ r. ⌜ r ≡ isNew (frameAt (now (a .entry))) bench number n ⌝ }
 {
-    match index_of(a, n, bench, number) {
-        Index::At(_) => false,
-        Index::Nothing => true,
+    let pair = bench as u64 + 4294967296 * (number as u64);
+    let mut seen: u64 = 0;
+    for j in 0..n {
+        let same = read8(a, 20 + 16 * j) == pair;
+        seen = seen | same as u64;
     }
+    seen == 0
 }

@@ -8,7 +8,6 @@ use crate::numbers::Entry;
 use crate::numbers::Header;
 use crate::numbers::read_entry;
 use crate::numbers::read_header;
-use crate::numbers::read8;
 use crate::search::is_new;
 
 pub(crate) fn good_bench(n: u32) -> bool
@@ -67,17 +66,16 @@ fn entry_good(e: Entry, offset: usize) -> bool
     e.offset as usize == offset
 }
 
-// Whether 8n bytes from an index on are zero.
-fn words_zero(a: &[u8], from: usize, n: usize) -> bool
-    requires { ⌜ from + 8 * n ≤ length (now a) ⌝ }
-    ensures { λ r. ⌜ r ≡ every (isZero (now (a .entry)) from) 0 (8 * n) ⌝ }
+// Whether n bytes from an index on are zero. It is not left early, so that a run takes many bytes at once.
+fn all_zero(a: &[u8], from: usize, n: usize) -> bool
+    requires { ⌜ from + n ≤ length (now a) ⌝ }
+    ensures { λ r. ⌜ r ≡ every (isZero (now (a .entry)) from) 0 n ⌝ }
 {
+    let mut seen: u8 = 0;
     for i in 0..n {
-        if read8(a, from + 8 * i) != 0 {
-            return false;
-        }
+        seen = seen | a[from + i];
     }
-    true
+    seen == 0
 }
 
 // Entry k of n, in an archive whose header is sound.
@@ -90,7 +88,7 @@ fn entry_sound(a: &[u8], n: usize, k: usize) -> bool
         return false;
     }
     let used = e.shown as usize * 90;
-    if !words_zero(a, e.offset as usize + used, (23040 - used) / 8) {
+    if !all_zero(a, e.offset as usize + used, 23040 - used) {
         return false;
     }
     is_new(a, k, e.bench, e.number)

@@ -10,9 +10,10 @@ use mathlib.Core.List.{List}
 use borrow.Author.Tests.{eqb-true, eqb-false, ltb-true, ltb-false, eq-eqb, ne-eqb}
 use lib.Dec.{eqb, ltb}
 use borrow.Author.Count.{below-more}
-use lib.Bits.{bitOr, bitXor, or-add-and, xor-add-and, and-le-l, and-le-r}
+use lib.Bits.{bitOr, bitXor, xor-add-and, and-le-l, and-le-r}
 use lib.ListN.{getD}
 use lib.Pow.{shr-shr}
+use Rattle.facts.proofs.Bits.{or-zero}
 use Rattle.panel.specs.Widen.{pixelOf, pixelIn}
 use Rattle.picture_compare.specs.declared.Position.the-variants.{Pixel, Same}
 use Rattle.picture_compare.specs.Differences.{AlikeFrom, firstPixel, firstDifference}
@@ -65,9 +66,6 @@ first-same p from (suc n) h =
     rw z (first-same p (suc from) n (λ i m. rw (suc-add, ← add-suc) (h (suc i) (omega arith))))
 
 -- ---- many bytes at once
-
-or-zero : (a b : ℕ) → bitOr a b ≡ 0 → (a ≡ 0) × (b ≡ 0)
-or-zero a b e = (omega (arith, or-add-and a b, and-le-r a b), omega (arith, or-add-and a b, and-le-l a b))
 
 xor-zero : (a b : ℕ) → bitXor a b ≡ 0 → a ≡ b
 xor-zero a b e = omega (arith, xor-add-and a b, and-le-l a b, and-le-r a b)

@@ -31,28 +31,28 @@ cast-used c = search needs
 mul-used : tie.Need-mul-used
 mul-used c = search needs
 
-cast-words-zero : tie.Need-cast-words-zero
-cast-words-zero c = search needs
+cast-all-zero : tie.Need-cast-all-zero
+cast-all-zero c = search needs
 
-add-words-zero : tie.Need-add-words-zero
-add-words-zero c = search needs
+add-all-zero : tie.Need-add-all-zero
+add-all-zero c = search needs
 
-sub-words-zero : tie.Need-sub-words-zero
-sub-words-zero c = let s = row-known _ _ _ _ _ (c .before .before .before .before .before .before .pre .0) (c .before .before .before .before .read-entry .ensures) (c .before .before .before .entry-good .ensures) (c .before .before .if1 .left) in omega arith
+sub-all-zero : tie.Need-sub-all-zero
+sub-all-zero c = let s = row-known _ _ _ _ _ (c .before .before .before .before .before .before .pre .0) (c .before .before .before .before .read-entry .ensures) (c .before .before .before .entry-good .ensures) (c .before .before .if1 .left) in omega arith
 
-words-zero-requires : tie.Need-words-zero-requires
-words-zero-requires c κs = let s = row-known _ _ _ _ _ (c .before .before .before .before .before .before .pre .0) (c .before .before .before .before .read-entry .ensures) (c .before .before .before .entry-good .ensures) (c .before .before .if1 .left) in omega arith
+all-zero-requires : tie.Need-all-zero-requires
+all-zero-requires c κs = let s = row-known _ _ _ _ _ (c .before .before .before .before .before .before .pre .0) (c .before .before .before .before .read-entry .ensures) (c .before .before .before .entry-good .ensures) (c .before .before .if1 .left) in omega arith
 
 returns-2 : tie.Need-returns-2
 returns-2 c = let p = c .before .before .before .before .before in
-    rest-fails _ _ _ _ _ (p .before .before .before .pre .0) (p .before .read-entry .ensures) (p .entry-good .ensures) (c .before .before .before .before .if1 .left) _ (c .before .words-zero .ensures) (c .if2 .taken)
+    rest-fails _ _ _ _ _ (p .before .before .before .pre .0) (p .before .read-entry .ensures) (p .entry-good .ensures) _ (c .before .all-zero .ensures) (c .if2 .taken)
 
 is-new-requires : tie.Need-is-new-requires
 is-new-requires c κs = search needs
 
 returns-3 : tie.Need-returns-3
 returns-3 c = let p = c .before .before .before .before .before .before in
-    row-sound _ _ _ _ _ (p .before .before .before .pre .0) (p .before .read-entry .ensures) (p .entry-good .ensures) (c .before .before .before .before .before .if1 .left) _ (c .before .before .words-zero .ensures) (c .before .if2 .left) _ (c .is-new .ensures)
+    row-sound _ _ _ _ _ (p .before .before .before .pre .0) (p .before .read-entry .ensures) (p .entry-good .ensures) _ (c .before .before .all-zero .ensures) (c .before .before .before .before .before .if1 .left) (c .before .if2 .left) _ (c .is-new .ensures)
 
 pub entry-sound-spec : {M : Type 1} → statement M
 entry-sound-spec =
@@ -67,10 +67,10 @@ entry-sound-spec =
     returns
     cast-used
     mul-used
-    cast-words-zero
-    add-words-zero
-    sub-words-zero
-    words-zero-requires
+    cast-all-zero
+    add-all-zero
+    sub-all-zero
+    all-zero-requires
     returns-2
     is-new-requires
     returns-3)
