@@ -9,6 +9,7 @@
 static uint8_t ram[8 * JOYCE_BLOCK];
 static uint8_t picture[JOYCE_PICTURE], other[JOYCE_PICTURE];
 static const uint8_t nothing[1] = {0};   /* lent with length 0 */
+static uint8_t one[JOYCE_ARCHIVE_LENGTH(1)], two[JOYCE_ARCHIVE_LENGTH(2) + 8];
 static int checks, failures;
 
 static void check(const char *what, long got, long wanted) {
@@ -105,12 +106,95 @@ static void check_numbers(void) {
     check("reach, sizes", joyce_refusal(joyce_reach(16, 15, 0, 0, 0, 0, 0, 0)), 6);
 }
 
+/* The number of four bytes, low first. */
+static long number_at(const uint8_t *bytes, size_t at) {
+    return (long)(bytes[at] | bytes[at + 1] << 8 | bytes[at + 2] << 16 | (uint32_t)bytes[at + 3] << 24);
+}
+
+static uint64_t add(const uint8_t *archive, size_t len, uint32_t bench, uint32_t number, uint32_t shown,
+                    uint8_t *room, size_t room_len) {
+    return joyce_archive_add(archive, len, bench, number, shown, picture, sizeof picture, room, room_len);
+}
+
+static void check_archive_start(uint8_t *none) {
+    memset(none, 0xEE, 21);
+    check("start in 19 bytes", (long)(joyce_archive_start(none, 19) >> 32), JOYCE_NO_ROOM);
+    check("nothing started", none[0], 0xEE);
+    uint64_t reply = joyce_archive_start(none, 21);
+    check("start", joyce_refusal(reply), JOYCE_ACCEPTED);
+    check("started length", (long)joyce_archive_length(reply), (long)JOYCE_ARCHIVE_LENGTH(0));
+    check("started form", number_at(none, 0), 1);
+    check("started end", none[20], 0xEE);
+    check("no frames", (long)joyce_archive_count(none, 20), 0);
+    check("entry 0 of none", joyce_refusal(joyce_archive_entry(none, 20, 0)), JOYCE_BAD_FRAME);
+}
+
+/* Makes archives of one frame and of two; the second has 200 lines. */
+static void check_archive_add(const uint8_t *none) {
+    memset(picture, 0x77, sizeof picture);
+    memset(two, 0xEE, sizeof two);
+    check("bench 0", joyce_refusal(add(none, 20, 0, 1, 256, one, sizeof one)), JOYCE_BAD_FRAME);
+    check("bench 65,536", joyce_refusal(add(none, 20, 65536, 1, 256, one, sizeof one)), JOYCE_BAD_FRAME);
+    check("shown 255", joyce_refusal(add(none, 20, 1, 1, 255, one, sizeof one)), JOYCE_BAD_FRAME);
+    check("short room", joyce_refusal(add(none, 20, 1, 1, 256, one, sizeof one - 1)), JOYCE_NO_ROOM);
+    uint64_t reply = joyce_archive_add(none, 20, 1, 1, 256, picture, sizeof picture - 1, one, sizeof one);
+    check("short picture", joyce_refusal(reply), JOYCE_BAD_LENGTH);
+    reply = add(none, 20, 65535, 0xFFFFFFFFu, 256, one, sizeof one);
+    check("add", joyce_refusal(reply), JOYCE_ACCEPTED);
+    check("added length", (long)joyce_archive_length(reply), 23076);
+    check("offset of the picture", number_at(one, 32), 36);
+    check("one frame", (long)joyce_archive_frames(joyce_archive_count(one, sizeof one)), 1);
+    reply = add(one, sizeof one, 65535, 0xFFFFFFFFu, 256, two, sizeof two);
+    check("the same again", joyce_refusal(reply), JOYCE_BAD_FRAME);
+    reply = add(one, sizeof one, 12, 345, 200, two, sizeof two);
+    check("second length", (long)joyce_archive_length(reply), (long)JOYCE_ARCHIVE_LENGTH(2));
+    check("offset moved on", number_at(two, 32), 52);
+    check("unshown line zero", two[52 + 23040 + 200 * JOYCE_LINE], 0);
+    check("room behind", two[JOYCE_ARCHIVE_LENGTH(2)], 0xEE);
+}
+
+static void check_archive_read(void) {
+    size_t len = JOYCE_ARCHIVE_LENGTH(2);
+    uint64_t reply = joyce_archive_entry(two, len, 0);
+    check("entry, bench", joyce_archive_bench(reply), 65535);
+    check("entry, number", joyce_archive_number(reply) == 0xFFFFFFFFu, 1);
+    check("entry, shown", joyce_archive_shown(reply), 256);
+    reply = joyce_archive_find(two, len, 12, 345);
+    check("found", joyce_found(reply), 1);
+    check("its index", joyce_archive_index(reply), 1);
+    check("not found", (long)joyce_archive_find(two, len, 345, 12), 0);
+    memset(other, 0x11, sizeof other);
+    reply = joyce_archive_read(two, len, 1, other, sizeof other);
+    check("read, bench", joyce_archive_bench(reply), 12);
+    check("read, number", (long)joyce_archive_number(reply), 345);
+    check("read, shown", joyce_archive_shown(reply), 200);
+    check("last shown byte", other[200 * JOYCE_LINE - 1], 0x77);
+    check("unshown byte", other[200 * JOYCE_LINE], 0x11);
+    check("entry 2", joyce_refusal(joyce_archive_read(two, len, 2, other, sizeof other)), JOYCE_BAD_FRAME);
+    check("refused, shown", joyce_archive_shown(joyce_archive_entry(two, len, 2)), 0);
+    check("short picture", joyce_refusal(joyce_archive_read(two, len, 0, other, sizeof other - 1)), JOYCE_BAD_LENGTH);
+    check("too long", joyce_refusal(joyce_archive_count(two, len + 1)), JOYCE_BAD_ARCHIVE);
+    two[len - 1] = 1;
+    check("unshown not zero", joyce_refusal(joyce_archive_find(two, len, 12, 345)), JOYCE_BAD_ARCHIVE);
+    check("no archive", joyce_refusal(joyce_archive_count(nothing, 0)), JOYCE_BAD_ARCHIVE);
+}
+
+static void check_archives(void) {
+    uint8_t none[21];
+    check("most frames", (long)JOYCE_ARCHIVE_MAX, 1000);
+    check("longest archive", (long)JOYCE_ARCHIVE_LENGTH(JOYCE_ARCHIVE_MAX), 23056020);
+    check_archive_start(none);
+    check_archive_add(none);
+    check_archive_read();
+}
+
 int main(void) {
     joyce_board board;
     check_power_on(&board);
     check_steps(&board);
     check_picture(&board);
     check_numbers();
+    check_archives();
     printf("%d checks, %d failed\n", checks, failures);
     return failures != 0;
 }

@@ -37,6 +37,22 @@ extern "C" {
     fn joyce_read_pointer(word: u16) -> u64;
     fn joyce_roll(old_top: u8, new_top: u8) -> i8;
     fn joyce_reach(internal: u8, total: u8, f0: u8, f1: u8, f2: u8, f3: u8, lock: u8, address: u16) -> u64;
+    fn joyce_archive_start(room: *mut u8, room_len: usize) -> u64;
+    fn joyce_archive_count(archive: *const u8, archive_len: usize) -> u64;
+    fn joyce_archive_entry(archive: *const u8, archive_len: usize, k: u32) -> u64;
+    fn joyce_archive_find(archive: *const u8, archive_len: usize, bench: u32, number: u32) -> u64;
+    fn joyce_archive_read(archive: *const u8, archive_len: usize, k: u32, picture: *mut u8, picture_len: usize) -> u64;
+    fn joyce_archive_add(
+        archive: *const u8,
+        archive_len: usize,
+        bench: u32,
+        number: u32,
+        shown: u32,
+        picture: *const u8,
+        picture_len: usize,
+        room: *mut u8,
+        room_len: usize,
+    ) -> u64;
 }
 
 /// The linked library.
@@ -54,4 +70,10 @@ pub const Library: Interface = Interface {
     read_pointer: joyce_read_pointer,
     roll: joyce_roll,
     reach: joyce_reach,
+    archive_start: joyce_archive_start,
+    archive_count: joyce_archive_count,
+    archive_entry: joyce_archive_entry,
+    archive_find: joyce_archive_find,
+    archive_read: joyce_archive_read,
+    archive_add: joyce_archive_add,
 };

@@ -3,6 +3,7 @@
 //! A run is cut into episodes, each from its own seed, so that a failing one can be made again by
 //! itself and cut down to few calls.
 
+mod archives;
 mod call;
 mod edges;
 mod fill;
@@ -14,6 +15,7 @@ mod sweep;
 mod unusual;
 
 use crate::machine::Machine;
+pub use archives::Tally as ArchiveTally;
 use call::{Call, Fill, Setup};
 use generate::Generator;
 use pair::Pair;
@@ -32,12 +34,21 @@ pub struct Options {
     /// The episode to begin with.
     pub first_episode: u64,
     pub sweep: bool,
+    pub archive_sweep: bool,
 }
 
 pub struct Passed {
     pub sweep_calls: u64,
     pub calls: u64,
     pub tally: Tally,
+    pub archives: Archives,
+}
+
+/// What the calls on archives met.
+#[derive(Default)]
+pub struct Archives {
+    pub sweep: ArchiveTally,
+    pub lists: ArchiveTally,
 }
 
 /// A difference, with the shortest list that was found to show it.
@@ -45,12 +56,16 @@ pub struct Failure {
     seed: u64,
     episode: u64,
     calls_before: u64,
-    setup: Setup,
-    list: Vec<Call>,
+    setup: String,
+    list: Vec<String>,
     difference: String,
 }
 
 impl Failure {
+    fn in_sweep(seed: u64, difference: String) -> Box<Failure> {
+        Box::new(Failure { seed, episode: 0, calls_before: 0, setup: String::new(), list: Vec::new(), difference })
+    }
+
     pub fn calls_before(&self) -> u64 {
         self.calls_before
     }
@@ -66,7 +81,7 @@ impl fmt::Display for Failure {
         if self.list.is_empty() {
             return writeln!(f, "in the sweep: {}", self.difference);
         }
-        writeln!(f, "{}; record of zeros", self.setup)?;
+        writeln!(f, "{}", self.setup)?;
         for (index, call) in self.list.iter().enumerate() {
             writeln!(f, "{:4}. {call}", index + 1)?;
         }
@@ -77,29 +92,28 @@ impl fmt::Display for Failure {
 
 /// Runs the test; `progress` gets the number of calls made so far, now and then.
 pub fn run(library: &dyn Machine, options: &Options, mut progress: impl FnMut(u64)) -> Result<Passed, Box<Failure>> {
-    let sweep_calls = if options.sweep { swept(library, options)? } else { 0 };
-    let mut calls = 0;
-    let mut tally = Tally::default();
-    let mut episode = options.first_episode;
-    while calls < options.calls {
-        let length = EPISODE.min(options.calls - calls);
-        let met = run_episode(library, options.seed, episode, length).map_err(|mut failure| {
-            failure.calls_before += calls;
-            failure
-        })?;
-        tally.add(&met);
-        calls += length;
-        episode += 1;
-        progress(calls);
+    let mut passed = Passed { sweep_calls: 0, calls: 0, tally: Tally::default(), archives: Archives::default() };
+    let in_sweep = |difference| Failure::in_sweep(options.seed, difference);
+    if options.sweep {
+        passed.sweep_calls = sweep::sweep(library).map_err(in_sweep)?;
     }
-    Ok(Passed { sweep_calls, calls, tally })
-}
-
-fn swept(library: &dyn Machine, options: &Options) -> Result<u64, Box<Failure>> {
-    sweep::sweep(library).map_err(|difference| {
-        let setup = Setup { blocks: 8, fill: Fill::Zero, seed: 0 };
-        Box::new(Failure { seed: options.seed, episode: 0, calls_before: 0, setup, list: Vec::new(), difference })
-    })
+    if options.archive_sweep {
+        passed.archives.sweep = archives::sweep(library).map_err(in_sweep)?;
+    }
+    let mut episode = options.first_episode;
+    while passed.calls < options.calls {
+        let length = EPISODE.min(options.calls - passed.calls);
+        let after = |mut failure: Box<Failure>| {
+            failure.calls_before += passed.calls;
+            failure
+        };
+        passed.tally.add(&run_episode(library, options.seed, episode, length).map_err(after)?);
+        passed.archives.lists.add(&archives::episode(library, options.seed, episode).map_err(after)?);
+        passed.calls += length;
+        episode += 1;
+        progress(passed.calls);
+    }
+    Ok(passed)
 }
 
 fn run_episode(library: &dyn Machine, seed: u64, episode: u64, length: u64) -> Result<Tally, Box<Failure>> {
@@ -118,6 +132,8 @@ fn run_episode(library: &dyn Machine, seed: u64, episode: u64, length: u64) -> R
         Err(difference) => {
             let calls_before = list.len() as u64;
             let (setup, list, difference) = cut_down(library, setup, list, difference);
+            let setup = format!("{setup}; record of zeros");
+            let list = list.iter().map(Call::to_string).collect();
             Err(Box::new(Failure { seed, episode, calls_before, setup, list, difference }))
         }
     }
@@ -142,27 +158,45 @@ fn cut_down(library: &dyn Machine, setup: Setup, list: Vec<Call>, difference: St
     (setup, list, difference)
 }
 
-#[cfg(all(test, feature = "standin"))]
+#[cfg(test)]
 mod tests {
     use super::*;
-    use crate::ffi::{Faulty, FAULTS};
+    use crate::model_c::C_MODEL;
+
+    /// The archives that the library is timed beside are those of the plain model.
+    #[test]
+    fn fast_archives_are_the_plain_ones() {
+        let swept = archives::sweep(&C_MODEL).unwrap_or_else(|difference| panic!("{difference}"));
+        assert!([0, 2, 10, 11, 12].iter().all(|&refusal| swept.refusals[refusal] > 10), "{:?}", swept.refusals);
+        (0..200).for_each(|episode| {
+            archives::episode(&C_MODEL, 3, episode).unwrap_or_else(|failure| panic!("{failure}"));
+        });
+    }
+}
+
+#[cfg(all(test, feature = "standin"))]
+mod fault_tests {
+    use super::*;
+    use crate::ffi::{faults, Faulty, BOARD_FAULTS};
 
     fn options(calls: u64, seed: u64) -> Options {
-        Options { calls, seed, first_episode: 0, sweep: true }
+        Options { calls, seed, first_episode: 0, sweep: true, archive_sweep: true }
     }
 
+    /// Without a fault, and with code that can have faults of archives but has none.
     #[test]
     fn finds_nothing_where_nothing_is() {
-        let passed = run(&Faulty(0), &options(50_000, 1), |_| {}).unwrap_or_else(|failure| panic!("{failure}"));
-        assert_eq!(passed.calls, 50_000);
+        for none in [0, faults().len() as u8 + 1] {
+            let passed = run(&Faulty(none), &options(50_000, 1), |_| {}).unwrap_or_else(|failure| panic!("{failure}"));
+            assert_eq!(passed.calls, 50_000);
+        }
     }
 
     #[test]
     fn finds_every_fault() {
-        for (index, name) in FAULTS.iter().enumerate() {
-            let mut options = options(200_000, 7);
+        for (index, name) in BOARD_FAULTS.iter().enumerate() {
             // Some faults show in the sweep already; the lists must find them too.
-            options.sweep = false;
+            let options = Options { sweep: false, archive_sweep: false, ..options(200_000, 7) };
             match run(&Faulty(index as u8 + 1), &options, |_| {}) {
                 Ok(_) => panic!("not found: {name}"),
                 Err(failure) => {
@@ -171,5 +205,32 @@ mod tests {
                 }
             }
         }
+    }
+
+    #[test]
+    fn finds_every_fault_of_archives() {
+        for (index, name) in faults().iter().enumerate().skip(BOARD_FAULTS.len()) {
+            match archives::sweep(&Faulty(index as u8 + 1)) {
+                Ok(_) => panic!("not found: {name}"),
+                Err(difference) => println!("{name}:\n{difference}"),
+            }
+        }
+    }
+
+    /// Not every fault shows in archives of a few frames, and some in few lists; what is found is cut down.
+    #[test]
+    fn lists_find_faults_of_archives() {
+        let named = faults();
+        let found = (BOARD_FAULTS.len()..named.len()).filter(|&index| {
+            let machine = Faulty(index as u8 + 1);
+            let failure = (0..2_000).find_map(|episode| archives::episode(&machine, 7, episode).err());
+            failure.iter().for_each(|failure| {
+                println!("{}:\n{failure}", named[index]);
+                assert!(failure.list_length() <= 6, "{}: {failure}", named[index]);
+            });
+            failure.is_some()
+        });
+        let found: Vec<usize> = found.collect();
+        assert!(found.len() >= 35, "found {found:?}");
     }
 }

@@ -3,12 +3,14 @@
 //! Each call lends slices for its own length. No function keeps a pointer; each takes any bytes and
 //! lengths, and writes only where it is lent something to write to.
 
+use crate::archive::Fields;
 use crate::machine::{Machine, StepNumbers};
 use crate::model::{Access, PowerOn};
 use crate::record::Board;
 use crate::reply::Reply;
 
 type StepFn = unsafe extern "C" fn(*mut Board, u32, u32, u32, *mut u8, usize, *const u8, usize) -> u64;
+type ArchiveAddFn = unsafe extern "C" fn(*const u8, usize, u32, u32, u32, *const u8, usize, *mut u8, usize) -> u64;
 type PowerOnFn = unsafe extern "C" fn(*mut Board, u8, u8, u8, u8, u8, u8, u8, u8, u8, u8) -> u64;
 
 /// Only this crate makes one, of functions that keep to the above.
@@ -25,6 +27,12 @@ pub struct Interface {
     pub(crate) read_pointer: unsafe extern "C" fn(u16) -> u64,
     pub(crate) roll: unsafe extern "C" fn(u8, u8) -> i8,
     pub(crate) reach: unsafe extern "C" fn(u8, u8, u8, u8, u8, u8, u8, u16) -> u64,
+    pub(crate) archive_start: unsafe extern "C" fn(*mut u8, usize) -> u64,
+    pub(crate) archive_count: unsafe extern "C" fn(*const u8, usize) -> u64,
+    pub(crate) archive_entry: unsafe extern "C" fn(*const u8, usize, u32) -> u64,
+    pub(crate) archive_find: unsafe extern "C" fn(*const u8, usize, u32, u32) -> u64,
+    pub(crate) archive_read: unsafe extern "C" fn(*const u8, usize, u32, *mut u8, usize) -> u64,
+    pub(crate) archive_add: ArchiveAddFn,
 }
 
 impl Machine for Interface {
@@ -106,5 +114,48 @@ impl Machine for Interface {
         let lock = access.paging.lock;
         // SAFETY: plain numbers.
         Reply(unsafe { (self.reach)(access.sizes.internal, access.sizes.total, f0, f1, f2, f3, lock, access.address) })
+    }
+
+    fn archive_start(&self, room: &mut [u8]) -> Reply {
+        // SAFETY: the slice lives through the call.
+        Reply(unsafe { (self.archive_start)(room.as_mut_ptr(), room.len()) })
+    }
+
+    fn archive_count(&self, archive: &[u8]) -> Reply {
+        // SAFETY: the slice is only read.
+        Reply(unsafe { (self.archive_count)(archive.as_ptr(), archive.len()) })
+    }
+
+    fn archive_entry(&self, archive: &[u8], k: u32) -> Reply {
+        // SAFETY: the slice is only read.
+        Reply(unsafe { (self.archive_entry)(archive.as_ptr(), archive.len(), k) })
+    }
+
+    fn archive_find(&self, archive: &[u8], bench: u32, number: u32) -> Reply {
+        // SAFETY: the slice is only read.
+        Reply(unsafe { (self.archive_find)(archive.as_ptr(), archive.len(), bench, number) })
+    }
+
+    fn archive_read(&self, archive: &[u8], k: u32, picture: &mut [u8]) -> Reply {
+        // SAFETY: the slices live through the call and do not overlap.
+        Reply(unsafe { (self.archive_read)(archive.as_ptr(), archive.len(), k, picture.as_mut_ptr(), picture.len()) })
+    }
+
+    fn archive_add(&self, archive: &[u8], fields: Fields, picture: &[u8], room: &mut [u8]) -> Reply {
+        let Fields { bench, number, shown } = fields;
+        // SAFETY: the slices live through the call, and the room overlaps neither of the others.
+        Reply(unsafe {
+            (self.archive_add)(
+                archive.as_ptr(),
+                archive.len(),
+                bench,
+                number,
+                shown,
+                picture.as_ptr(),
+                picture.len(),
+                room.as_mut_ptr(),
+                room.len(),
+            )
+        })
     }
 }

@@ -1,6 +1,7 @@
 //! Host side of the Joyce main board: the C interface of the proved library, a second model of the
 //! board, and a differential test of the one against the other.
 
+pub mod archive;
 #[cfg(not(feature = "standin"))]
 pub mod ffi;
 #[cfg(feature = "standin")]
@@ -13,5 +14,9 @@ pub mod model;
 pub mod model_c;
 pub mod record;
 pub mod reply;
+#[cfg(feature = "standin")]
+mod standin_archive;
+#[cfg(feature = "standin")]
+mod standin_faults;
 
 pub use ffi::Library;

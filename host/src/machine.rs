@@ -1,6 +1,7 @@
 //! One trait for the library and for the model, so that either can be driven.
 
-use crate::model::{self, Access, PowerOn};
+use crate::archive::Fields;
+use crate::model::{self, archive, Access, PowerOn};
 use crate::record::{Board, VERSION};
 use crate::reply::Reply;
 
@@ -26,6 +27,12 @@ pub trait Machine {
     fn read_pointer(&self, word: u16) -> Reply;
     fn roll(&self, old: u8, new: u8) -> i8;
     fn reach(&self, access: &Access) -> Reply;
+    fn archive_start(&self, room: &mut [u8]) -> Reply;
+    fn archive_count(&self, archive: &[u8]) -> Reply;
+    fn archive_entry(&self, archive: &[u8], k: u32) -> Reply;
+    fn archive_find(&self, archive: &[u8], bench: u32, number: u32) -> Reply;
+    fn archive_read(&self, archive: &[u8], k: u32, picture: &mut [u8]) -> Reply;
+    fn archive_add(&self, archive: &[u8], fields: Fields, picture: &[u8], room: &mut [u8]) -> Reply;
 }
 
 /// The second model.
@@ -80,6 +87,30 @@ impl Machine for Model {
 
     fn reach(&self, access: &Access) -> Reply {
         model::reach(access).into()
+    }
+
+    fn archive_start(&self, room: &mut [u8]) -> Reply {
+        archive::start(room).into()
+    }
+
+    fn archive_count(&self, archive: &[u8]) -> Reply {
+        archive::count(archive).into()
+    }
+
+    fn archive_entry(&self, archive: &[u8], k: u32) -> Reply {
+        archive::entry(archive, k).into()
+    }
+
+    fn archive_find(&self, archive: &[u8], bench: u32, number: u32) -> Reply {
+        archive::find(archive, bench, number).into()
+    }
+
+    fn archive_read(&self, archive: &[u8], k: u32, picture: &mut [u8]) -> Reply {
+        archive::read(archive, k, picture).into()
+    }
+
+    fn archive_add(&self, archive: &[u8], fields: Fields, picture: &[u8], room: &mut [u8]) -> Reply {
+        archive::add(archive, fields, picture, room).into()
     }
 }
 

@@ -14,11 +14,22 @@ use tool::args::Args;
 use tool::out;
 
 const HELP: &str = "\
-joyce demo [-o FILE]            a ledger page on a board's screen; picture in FILE (demo.pbm)
+joyce demo [-o FILE]            a ledger page on a board's screen; picture in FILE (demo.pbm),
+                                one screen of it in an archive beside it (demo.archive)
 joyce render RAM [--f5 HEX] [--f6 HEX] [--f7 HEX] [--rate 50|60] [-o FILE]
                                 the screen of a RAM file (5B, 00, 40, 50, screen.pbm)
 joyce reach                     the reach list: groups of 9 bytes from stdin, text to stdout
 joyce diff A B                  where two pictures differ first; exit status 1 if they do
+joyce archive new FILE          an archive of no frames in a new file
+joyce archive add FILE --bench B --number N PICTURE [--shown 200|256]
+                                one frame more: all lines of PICTURE, or its first 200
+joyce archive list FILE         a table of its entries
+joyce archive show FILE K       the picture of entry K (from 0) in text
+joyce archive extract FILE K -o PICTURE
+joyce archive extract FILE --all -o FOLDER
+joyce archive find FILE --bench B --number N
+                                which entry it is; exit status 1 if there is none
+joyce archive check FILE        whether it is sound; exit status 1 and where, if not
 joyce fuzz [--calls N] [--seed S] [--episode E] [--fault F]
                                 the library against the model (2000000 calls, seed 1);
                                 --fault only with the stand-in
@@ -56,6 +67,7 @@ fn run(arguments: &[String]) -> Result<bool, String> {
         "render" => tool::render::run(&Library, rest).map(|()| true),
         "reach" => reach(rest).map(|()| true),
         "diff" => tool::diff::run(&Library, rest),
+        "archive" => tool::archive::run(&Library, rest),
         "fuzz" => run_fuzz(rest),
         "bench" => tool::bench::run(&Library, rest).map(|()| true),
         "help" | "--help" | "-h" => out::write(HELP).map(|()| true),
@@ -79,6 +91,7 @@ fn run_fuzz(rest: &[String]) -> Result<bool, String> {
         seed: args.number("--seed", 1)?,
         first_episode: args.number("--episode", 0)?,
         sweep: args.text("--episode").is_none() && args.text("--fault").is_none(),
+        archive_sweep: args.text("--episode").is_none(),
     };
     let machine = under_test(&args)?;
     let start = Instant::now();
@@ -97,7 +110,7 @@ fn run_fuzz(rest: &[String]) -> Result<bool, String> {
 }
 
 fn report(passed: &fuzz::Passed, seed: u64, seconds: f64) -> Result<(), String> {
-    let fuzz::Passed { calls, sweep_calls, tally } = passed;
+    let fuzz::Passed { calls, sweep_calls, tally, archives } = passed;
     out::line(&format!(
         "no difference: {calls} calls in lists (seed {seed}), {sweep_calls} in the sweep, {seconds:.1} s"
     ))?;
@@ -108,6 +121,14 @@ fn report(passed: &fuzz::Passed, seed: u64, seconds: f64) -> Result<(), String> 
         tally.marking,
         tally.drawing,
         tally.nmi
+    ))?;
+    let met = |refusal: usize| archives.lists.refusals[refusal] + archives.sweep.refusals[refusal];
+    out::line(&format!(
+        "archives: {} calls in lists, {} in the sweep; accepted {}, refused with 2, 10, 11, 12: {:?}",
+        archives.lists.calls(),
+        archives.sweep.calls(),
+        met(0),
+        [2, 10, 11, 12].map(met)
     ))
 }
 
@@ -121,13 +142,14 @@ fn under_test(args: &Args) -> Result<Box<dyn Machine>, String> {
 
 #[cfg(feature = "standin")]
 fn under_test(args: &Args) -> Result<Box<dyn Machine>, String> {
-    use joyce::ffi::{Faulty, FAULTS};
+    use joyce::ffi::{faults, Faulty};
     let fault = args.number("--fault", 0)?;
-    if fault as usize > FAULTS.len() {
-        return Err(format!("--fault: there are {} faults", FAULTS.len()));
+    let faults = faults();
+    if fault as usize > faults.len() {
+        return Err(format!("--fault: there are {} faults", faults.len()));
     }
     if fault > 0 {
-        out::line(&format!("fault {fault}: {}", FAULTS[fault as usize - 1]))?;
+        out::line(&format!("fault {fault}: {}", faults[fault as usize - 1]))?;
     }
     Ok(Box::new(Faulty(fault as u8)))
 }

@@ -1,5 +1,7 @@
 //! The board, written a second time from the rules, to be held against the library.
 
+pub mod archive;
+pub mod archive_fast;
 mod memory;
 mod picture;
 mod pure;
@@ -26,6 +28,9 @@ pub const BAD_NUMBER: u8 = 3;
 pub const STREAM_ENDED: u8 = 4;
 pub const NO_PORT: u8 = 5;
 pub const BAD_SIZES: u8 = 6;
+pub const BAD_ARCHIVE: u8 = 10;
+pub const BAD_FRAME: u8 = 11;
+pub const NO_ROOM: u8 = 12;
 
 /// What the host gives at power-on.
 #[derive(Clone, Copy, PartialEq, Eq, Debug, Default)]

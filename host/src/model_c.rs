@@ -1,9 +1,12 @@
-//! The model behind the C interface, to be timed beside the library, and for `standin-c` to export.
+//! The model behind the C interface, to be timed beside the library, and for `standin-c` to export. Archives are those of
+//! `archive_fast`: the plain ones build a whole archive to look one over.
 
+use crate::archive::Fields;
 use crate::interface::Interface;
 use crate::machine::{Machine, Model, StepNumbers};
-use crate::model::{Access, PowerOn};
+use crate::model::{archive_fast, Access, PowerOn};
 use crate::record::{Board, Paging, Sizes};
+use crate::reply::Reply;
 
 /// The model's functions, called as the library's are.
 pub const C_MODEL: Interface = Interface {
@@ -19,6 +22,12 @@ pub const C_MODEL: Interface = Interface {
     read_pointer: joyce_read_pointer,
     roll: joyce_roll,
     reach: joyce_reach,
+    archive_start: joyce_archive_start,
+    archive_count: joyce_archive_count,
+    archive_entry: joyce_archive_entry,
+    archive_find: joyce_archive_find,
+    archive_read: joyce_archive_read,
+    archive_add: joyce_archive_add,
 };
 
 /// The bytes lent by pointer and length. No bytes may be lent from an address at which there are none.
@@ -146,4 +155,64 @@ pub extern "C" fn joyce_roll(old_top: u8, new_top: u8) -> i8 {
 pub extern "C" fn joyce_reach(internal: u8, total: u8, f0: u8, f1: u8, f2: u8, f3: u8, lock: u8, address: u16) -> u64 {
     let paging = Paging { maps: [f0, f1, f2, f3], lock };
     Model.reach(&Access { sizes: Sizes { internal, total }, paging, address }).0
+}
+
+/// # Safety
+/// What is lent must be as include/joyce.h asks.
+#[cfg_attr(feature = "standin", no_mangle)]
+pub unsafe extern "C" fn joyce_archive_start(room: *mut u8, room_len: usize) -> u64 {
+    Reply::from(archive_fast::start(lent_mut(room, room_len))).0
+}
+
+/// # Safety
+/// What is lent must be as include/joyce.h asks.
+#[cfg_attr(feature = "standin", no_mangle)]
+pub unsafe extern "C" fn joyce_archive_count(archive: *const u8, archive_len: usize) -> u64 {
+    Reply::from(archive_fast::count(lent(archive, archive_len))).0
+}
+
+/// # Safety
+/// What is lent must be as include/joyce.h asks.
+#[cfg_attr(feature = "standin", no_mangle)]
+pub unsafe extern "C" fn joyce_archive_entry(archive: *const u8, archive_len: usize, k: u32) -> u64 {
+    Reply::from(archive_fast::entry(lent(archive, archive_len), k)).0
+}
+
+/// # Safety
+/// What is lent must be as include/joyce.h asks.
+#[cfg_attr(feature = "standin", no_mangle)]
+pub unsafe extern "C" fn joyce_archive_find(archive: *const u8, archive_len: usize, bench: u32, number: u32) -> u64 {
+    Reply::from(archive_fast::find(lent(archive, archive_len), bench, number)).0
+}
+
+/// # Safety
+/// What is lent must be as include/joyce.h asks.
+#[cfg_attr(feature = "standin", no_mangle)]
+pub unsafe extern "C" fn joyce_archive_read(
+    archive: *const u8,
+    archive_len: usize,
+    k: u32,
+    picture: *mut u8,
+    picture_len: usize,
+) -> u64 {
+    Reply::from(archive_fast::read(lent(archive, archive_len), k, lent_mut(picture, picture_len))).0
+}
+
+/// # Safety
+/// What is lent must be as include/joyce.h asks.
+#[cfg_attr(feature = "standin", no_mangle)]
+pub unsafe extern "C" fn joyce_archive_add(
+    archive: *const u8,
+    archive_len: usize,
+    bench: u32,
+    number: u32,
+    shown: u32,
+    picture: *const u8,
+    picture_len: usize,
+    room: *mut u8,
+    room_len: usize,
+) -> u64 {
+    let (archive, picture) = (lent(archive, archive_len), lent(picture, picture_len));
+    let room = lent_mut(room, room_len);
+    Reply::from(archive_fast::add(archive, Fields::new(bench, number, shown), picture, room)).0
 }

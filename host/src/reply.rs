@@ -1,5 +1,7 @@
 //! The 64-bit reply of the C interface and the plain answers it carries.
 
+pub mod archive;
+
 /// A reply as the library gives it, every bit kept.
 #[derive(Clone, Copy, PartialEq, Eq, Default)]
 pub struct Reply(pub u64);

@@ -1,13 +1,16 @@
 //! Stands in for the linked library while there is none: the model, sound or with one fault put in
 //! on purpose, to see that the differential test finds it.
 
+use crate::archive::Fields;
 use crate::machine::{Machine, Model, StepNumbers};
-use crate::model::{self, Access, PowerOn};
+use crate::model::{self, archive_fast, Access, PowerOn};
 use crate::record::{Board, Lines, BLOCK, ENABLE, LINE_BYTES, PICTURE, REVERSE, ROUTE_NMI};
 use crate::reply::{Answer, Drawn, Pointer, Reply};
+use crate::standin_archive::FaultyArchives;
+use crate::standin_faults::{Fault, ARCHIVE_FAULTS};
 
-/// The faults, numbered from 1.
-pub const FAULTS: [&str; 16] = [
+/// The faults of the board, numbered from 1; those of archives follow.
+pub const BOARD_FAULTS: [&str; 16] = [
     "reading F8 clears the counter",
     "lock bits in bank order",
     "pixel bytes follow each other with no gap of eight",
@@ -25,6 +28,11 @@ pub const FAULTS: [&str; 16] = [
     "a pixel byte past the end of the block makes no line dirty",
     "reset keeps boot.at",
 ];
+
+/// All faults, the first of them number 1.
+pub fn faults() -> Vec<&'static str> {
+    BOARD_FAULTS.iter().copied().chain(ARCHIVE_FAULTS.iter().map(|fault| fault.1)).collect()
+}
 
 /// The stand-in; fault 0 is none.
 pub struct Faulty(pub u8);
@@ -108,9 +116,57 @@ impl Machine for Faulty {
     fn reach(&self, access: &Access) -> Reply {
         Model.reach(access)
     }
+
+    fn archive_start(&self, room: &mut [u8]) -> Reply {
+        match self.archives() {
+            None => archive_fast::start(room).into(),
+            Some(faulty) => faulty.start(room).into(),
+        }
+    }
+
+    fn archive_count(&self, archive: &[u8]) -> Reply {
+        match self.archives() {
+            None => archive_fast::count(archive).into(),
+            Some(faulty) => faulty.count(archive).into(),
+        }
+    }
+
+    fn archive_entry(&self, archive: &[u8], k: u32) -> Reply {
+        match self.archives() {
+            None => archive_fast::entry(archive, k).into(),
+            Some(faulty) => faulty.entry(archive, k).into(),
+        }
+    }
+
+    fn archive_find(&self, archive: &[u8], bench: u32, number: u32) -> Reply {
+        match self.archives() {
+            None => archive_fast::find(archive, bench, number).into(),
+            Some(faulty) => faulty.find(archive, bench, number).into(),
+        }
+    }
+
+    fn archive_read(&self, archive: &[u8], k: u32, picture: &mut [u8]) -> Reply {
+        match self.archives() {
+            None => archive_fast::read(archive, k, picture).into(),
+            Some(faulty) => faulty.read(archive, k, picture).into(),
+        }
+    }
+
+    fn archive_add(&self, archive: &[u8], fields: Fields, picture: &[u8], room: &mut [u8]) -> Reply {
+        match self.archives() {
+            None => archive_fast::add(archive, fields, picture, room).into(),
+            Some(faulty) => faulty.add(archive, fields, picture, room).into(),
+        }
+    }
 }
 
 impl Faulty {
+    /// Archives with the fault, if it is one of theirs. A number past the last is none, but of the code that can have one.
+    fn archives(&self) -> Option<FaultyArchives> {
+        let index = (self.0 as usize).checked_sub(BOARD_FAULTS.len() + 1)?;
+        Some(FaultyArchives(ARCHIVE_FAULTS.get(index).map_or(Fault::Nothing, |fault| fault.0)))
+    }
+
     /// Makes the step soundly, then alters what the fault alters.
     fn altered_step(&self, board: &mut Board, step: StepNumbers, ram: &mut [u8], boot: &[u8]) -> Reply {
         let before = *board;

@@ -1,33 +1,13 @@
 //! The tool as a user meets it.
 
+mod common;
+
+use common::{complained, folder, joyce, names, said};
 use std::fs;
 use std::io::Write;
-use std::path::PathBuf;
-use std::process::{Command, Output, Stdio};
+use std::process::{Command, Stdio};
 
 const PICTURE: usize = 23_040;
-
-/// A folder of its own for each test.
-fn folder(name: &str) -> PathBuf {
-    let folder = PathBuf::from(env!("CARGO_TARGET_TMPDIR")).join(name);
-    let _ = fs::remove_dir_all(&folder);
-    fs::create_dir_all(&folder).expect("a folder");
-    folder
-}
-
-fn joyce(folder: &PathBuf, arguments: &[&str]) -> Output {
-    Command::new(env!("CARGO_BIN_EXE_joyce")).args(arguments).current_dir(folder).output().expect("the tool runs")
-}
-
-fn said(output: &Output) -> String {
-    String::from_utf8_lossy(&output.stdout).into_owned()
-}
-
-fn complained(output: &Output, of: &str) {
-    let text = String::from_utf8_lossy(&output.stderr).into_owned();
-    assert_eq!(output.status.code(), Some(2), "{text}");
-    assert!(text.contains(of), "{text}");
-}
 
 fn reach(input: &[u8]) -> String {
     let mut child = Command::new(env!("CARGO_BIN_EXE_joyce"))
@@ -71,10 +51,25 @@ fn demo_writes_a_picture_and_counts_lines() {
         "300 ticks counted: 0 lines",
         "rolls up by 8 lines: 256 lines",
         "as they stand: 0 lines",
+        "kept in page.archive: bench 12, number 345; read back, it is the same",
     ] {
         assert!(text.contains(line), "{line} in {text}");
     }
-    assert_eq!(fs::read_dir(&folder).expect("the folder").count(), 1);
+    assert_eq!(names(&folder), ["page.archive", "page.pbm"]);
+    // Its own earlier output is written over, and the archive has the screen of the entered line.
+    assert!(joyce(&folder, &["demo", "-o", "page.pbm"]).status.success());
+    let kept = fs::read(folder.join("page.archive")).expect("the archive");
+    assert_eq!(kept.len(), 20 + 23_056);
+    assert_ne!(kept[36..], page[11..]);
+    complained(&joyce(&folder, &["demo", "-o", "page.archive"]), "name the picture otherwise");
+    assert_eq!(fs::read(folder.join("page.archive")).expect("the archive"), kept);
+    // One that holds something else is not.
+    assert!(joyce(&folder, &["archive", "add", "page.archive", "--bench", "1", "--number", "2", "page.pbm"])
+        .status
+        .success());
+    let two = fs::read(folder.join("page.archive")).expect("the archive");
+    complained(&joyce(&folder, &["demo", "-o", "page.pbm"]), "page.archive: there already, and not from a demo");
+    assert_eq!(fs::read(folder.join("page.archive")).expect("the archive"), two);
 }
 
 #[test]
@@ -127,7 +122,7 @@ fn errors_are_clear_and_leave_nothing() {
     complained(&joyce(&folder, &["demo", "-o", "no/such/folder.pbm"]), "no/such/folder.pbm:");
     complained(&joyce(&folder, &["fuzz", "--calls", "many"]), "--calls: many is not a number");
     complained(&joyce(&folder, &["bench", "--ms", "0"]), "--ms");
-    assert_eq!(fs::read_dir(&folder).expect("the folder").count(), 1);
+    assert_eq!(names(&folder), ["short"]);
     assert!(said(&joyce(&folder, &["help"])).contains("joyce reach"));
 }
 
@@ -151,5 +146,8 @@ fn fuzz_is_told_its_seed() {
     let folder = folder("fuzz");
     let output = joyce(&folder, &["fuzz", "--calls", "3000", "--seed", "5"]);
     assert!(output.status.success());
-    assert!(said(&output).contains("no difference: 3000 calls in lists (seed 5)"));
+    let text = said(&output);
+    assert!(text.contains("no difference: 3000 calls in lists (seed 5)"), "{text}");
+    let line = text.lines().find(|line| line.starts_with("archives: ")).expect("a line about archives");
+    assert!(line.contains("refused with 2, 10, 11, 12: [") && !line.contains("[0, 0, 0, 0]"), "{line}");
 }

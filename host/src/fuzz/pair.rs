@@ -137,7 +137,8 @@ impl<'m> Pair<'m> {
     }
 }
 
-fn unequal(a: &[u8], b: &[u8]) -> Option<usize> {
+/// Where two runs of bytes of one length differ first.
+pub fn unequal(a: &[u8], b: &[u8]) -> Option<usize> {
     if a == b {
         return None;
     }

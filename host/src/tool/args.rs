@@ -5,16 +5,26 @@ use std::collections::BTreeMap;
 pub struct Args {
     pub words: Vec<String>,
     flags: BTreeMap<String, String>,
+    switches: Vec<String>,
 }
 
 impl Args {
     /// Takes the arguments apart. Every flag takes a value; one that is not `known` is an error.
     pub fn parse(arguments: &[String], known: &[&str]) -> Result<Args, String> {
-        let mut args = Args { words: Vec::new(), flags: BTreeMap::new() };
+        Args::parse_with(arguments, known, &[])
+    }
+
+    /// As `parse`, with switches: flags that take no value.
+    pub fn parse_with(arguments: &[String], known: &[&str], switches: &[&str]) -> Result<Args, String> {
+        let mut args = Args { words: Vec::new(), flags: BTreeMap::new(), switches: Vec::new() };
         let mut rest = arguments.iter();
         while let Some(argument) = rest.next() {
             if !argument.starts_with('-') {
                 args.words.push(argument.clone());
+                continue;
+            }
+            if switches.contains(&argument.as_str()) {
+                args.switches.push(argument.clone());
                 continue;
             }
             if !known.contains(&argument.as_str()) {
@@ -35,6 +45,11 @@ impl Args {
             return Ok(());
         }
         Err(format!("expected {what}, got {} argument(s)", self.words.len()))
+    }
+
+    /// Whether a switch is given.
+    pub fn has(&self, switch: &str) -> bool {
+        self.switches.iter().any(|given| given == switch)
     }
 
     pub fn text(&self, flag: &str) -> Option<&str> {

@@ -1,6 +1,8 @@
 //! `joyce bench`: each operation of the library beside the model's, both through the C interface, on the same inputs. A last
 //! column has the model called from Rust itself, where it may be inlined: what the interface costs.
 
+mod archives;
+
 use super::args::Args;
 use super::out;
 use super::timing::{black_box, keep, nanoseconds};
@@ -55,8 +57,8 @@ struct Bench<'m> {
     library: &'m dyn Machine,
     /// For each machine and row, in one pass.
     budget: Duration,
-    /// The best of each row so far: library, model, model inlined.
-    best: RefCell<Vec<[f64; 3]>>,
+    /// The best of each row so far: library, model, model inlined, and in some rows one more.
+    best: RefCell<Vec<Vec<f64>>>,
     /// The row that comes next, and whether this pass prints.
     next: Cell<usize>,
     last: Cell<bool>,
@@ -73,15 +75,20 @@ impl Bench<'_> {
     }
 
     /// What a row took: the best of this pass and those before.
-    fn best(&self, taken: [f64; 3]) -> [f64; 3] {
+    fn best<const N: usize>(&self, taken: [f64; N]) -> [f64; N] {
         let mut best = self.best.borrow_mut();
         let row = self.next.get();
         self.next.set(row + 1);
         match best.get_mut(row) {
             Some(found) => found.iter_mut().zip(taken).for_each(|(found, taken)| *found = found.min(taken)),
-            None => best.push(taken),
+            None => best.push(taken.to_vec()),
         }
-        best[row]
+        std::array::from_fn(|which| best[row][which])
+    }
+
+    /// Writes a row of the table.
+    fn print(&self, name: &str, [library, model, inlined]: [f64; 3]) -> Result<(), String> {
+        self.line(&format!("{name:<44}{library:>11.1}{model:>11.1}{:>8.2}{inlined:>11.1}", library / model))
     }
 
     /// Times the work on each machine from a copy of the same fixture.
@@ -89,7 +96,7 @@ impl Bench<'_> {
         let machines: [&dyn Machine; 3] = [self.library, &C_MODEL, &Model];
         let mut fixtures = [fixture.clone(), fixture.clone(), fixture.clone()];
         let mut turns = [0; 3];
-        let [library, model, inlined] = self.best(nanoseconds(self.budget, |which, calls| {
+        let taken = self.best(nanoseconds(self.budget, |which, calls| {
             let (machine, fixture) = (black_box(machines[which]), &mut fixtures[which]);
             let first = turns[which] + 1;
             turns[which] += calls;
@@ -99,8 +106,8 @@ impl Bench<'_> {
             }
             start.elapsed()
         }));
-        self.line(&format!("{name:<44}{library:>11.1}{model:>11.1}{:>8.2}{inlined:>11.1}", library / model))?;
-        Ok(library)
+        self.print(name, taken)?;
+        Ok(taken[0])
     }
 
     /// Times one step, made over and over; `step` may depend on the turn.
@@ -139,7 +146,8 @@ fn table(bench: &Bench) -> Result<(), String> {
     stores(bench)?;
     pictures(bench)?;
     numbers(bench)?;
-    growth(bench)
+    growth(bench)?;
+    archives::rows(bench)
 }
 
 fn steps(bench: &Bench) -> Result<(), String> {

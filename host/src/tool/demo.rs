@@ -1,24 +1,32 @@
 //! `joyce demo`: a ledger page on a board's screen, kept up to date by refreshes.
 
+use super::archive::Kept;
 use super::args::Args;
 use super::screen::Screen;
 use super::{files, ledger, out, pbm, preview};
+use joyce::archive::Fields;
 use joyce::machine::{Machine, StepNumbers};
 use joyce::record::{LINE_BYTES, PICTURE};
-use joyce::reply::Drawn;
+use joyce::reply::{Difference, Drawn};
+use std::fs;
+use std::path::Path;
 
 const FRAME: u32 = 312;
+/// Bench and number that the entered line's screen is kept under, and its lines at 50 Hz.
+const KEPT: Fields = Fields { bench: 12, number: 345, shown: 256 };
 
 pub fn run(machine: &dyn Machine, arguments: &[String]) -> Result<(), String> {
     let args = Args::parse(arguments, &["-o"])?;
     args.expect_words(0, "no file but that of -o")?;
     let output = args.text("-o").unwrap_or("demo.pbm");
+    let archive = archive_beside(machine, output)?;
     let mut screen = Screen::start(machine)?;
 
     write_page(&mut screen)?;
     report(&mut screen, "the page is put up")?;
     enter_line(&mut screen)?;
     report(&mut screen, "the clerk enters a line")?;
+    let entered = screen.picture.clone();
     invert_cell(&mut screen)?;
     report(&mut screen, "one cell is inverted")?;
     let ticks = scan_frames(&mut screen, 50)?;
@@ -30,7 +38,41 @@ pub fn run(machine: &dyn Machine, arguments: &[String]) -> Result<(), String> {
 
     files::write(output, &pbm::encode(&screen.picture))?;
     out::write(&preview::preview(&screen.picture))?;
-    out::line(&format!("{} steps made; picture in {output}", screen.steps))
+    out::line(&format!("{} steps made; picture in {output}", screen.steps))?;
+    keep(machine, &archive, &entered)
+}
+
+/// The archive's name: the picture's, with another ending.
+fn archive_beside(machine: &dyn Machine, picture: &str) -> Result<String, String> {
+    let path = Path::new(picture).with_extension("archive").display().to_string();
+    if path == picture && picture.ends_with(".archive") {
+        return Err(format!("-o: {picture} is where the archive goes; name the picture otherwise"));
+    }
+    // What is no file name at all stays as it is, and is refused when it is written.
+    if path != picture && fs::symlink_metadata(&path).is_ok() && !of_a_demo(machine, &path) {
+        return Err(format!("{path}: there already, and not from a demo; give the picture another name by -o"));
+    }
+    Ok(path)
+}
+
+/// Whether an archive is what a demo leaves, and may be written over by the next one.
+fn of_a_demo(machine: &dyn Machine, path: &str) -> bool {
+    let found = Kept::open(machine, path).and_then(|kept| Ok((kept.count()?, kept.find(KEPT.bench, KEPT.number)?)));
+    found == Ok((1, Some(0)))
+}
+
+/// Keeps a screen in an archive beside the picture, and reads it back from the file.
+fn keep(machine: &dyn Machine, path: &str, screen: &[u8]) -> Result<(), String> {
+    files::write(path, &Kept::started(machine, path)?.with(KEPT, screen)?)?;
+    let (entry, read) = Kept::open(machine, path)?.read(0)?;
+    let difference = Difference::from(machine.first_difference(&read, screen));
+    if difference != Difference::default() {
+        return Err(format!("{path}: read back, the screen is another: {difference:?}"));
+    }
+    out::line(&format!(
+        "the screen with the line entered is kept in {path}: bench {}, number {}; read back, it is the same",
+        entry.bench, entry.number
+    ))
 }
 
 fn write_page(screen: &mut Screen) -> Result<(), String> {

@@ -1,5 +1,6 @@
 //! The parts of the tool.
 
+pub mod archive;
 pub mod args;
 pub mod bench;
 pub mod demo;
@@ -7,6 +8,7 @@ pub mod diff;
 pub mod files;
 pub mod font;
 pub mod ledger;
+pub mod lock;
 pub mod out;
 pub mod pbm;
 pub mod preview;

@@ -1,6 +1,6 @@
 //! A small look at a picture on the terminal, in braille.
 
-use joyce::record::{LINES, LINE_BYTES};
+use joyce::record::LINE_BYTES;
 
 /// Pixels to a dot across and down; the monitor's pixels are twice as high as wide.
 const ACROSS: usize = 3;
@@ -31,10 +31,10 @@ fn cell(picture: &[u8], column: usize, row: usize) -> char {
     char::from_u32(0x2800 + bits).expect("a braille cell")
 }
 
-/// The picture in 120 columns and 32 rows.
+/// The picture in 120 columns and 32 rows; of 200 lines, 25 rows.
 pub fn preview(picture: &[u8]) -> String {
     let columns = LINE_BYTES * 8 / (2 * ACROSS);
-    let rows = LINES / (4 * DOWN);
+    let rows = picture.len() / LINE_BYTES / (4 * DOWN);
     let mut text = String::new();
     for row in 0..rows {
         let line: String = (0..columns).map(|column| cell(picture, column, row)).collect();
