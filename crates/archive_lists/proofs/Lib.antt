@@ -1,3 +1,4 @@
+pub mod After
 pub mod Steps
 pub mod Storing
 pub mod Theorems
