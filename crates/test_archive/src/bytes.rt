@@ -1,5 +1,6 @@
-// Lent bytes: patterns in them, sums over them, a part of them, one of them changed, and numbers of four.
+// Lent bytes: a pattern in them, sums over them, how many there are of a number asked for, and one of them changed.
 ghost use Prim.Native.Nat.{_<_, _≤_};
+ghost use lib.ListN.{length};
 
 // The byte of a pattern at an index.
 fn pattern(at: usize, first: usize) -> u8 {
@@ -19,35 +20,30 @@ fn wide(x: u8) -> u64
     x as u64
 }
 
-// A sum in which the order of the bytes counts.
-pub(crate) fn sum(bytes: &[u8]) -> u64 {
+// A sum of the bytes from one index up to another, in which their order counts.
+pub(crate) fn sum(bytes: &[u8], from: usize, end: usize) -> u64
+    requires { ⌜ end ≤ length (now bytes) ⌝ }
+{
     let mut s: u64 = 1;
-    let mut i: usize = 0;
-    while i < bytes.len() {
+    for i in from..end {
         s = (s % 1000000007 * 257 + wide(bytes[i])) % 1000000007;
-        i += 1;
     }
     s
 }
 
-// A length that is asked for, of bytes of which there are no more than the size.
-pub(crate) fn part(n: usize, size: usize) -> usize
-    ensures { λ r. ⌜ r ≤ size ⌝ }
+// The number asked for, or as many as there are.
+pub(crate) fn least(asked: usize, most: usize) -> usize
+    ensures { λ r. ⌜ r ≤ most ⌝ }
 {
-    if n < size {
-        return n;
+    if asked < most {
+        return asked;
     }
-    size
+    most
 }
 
-// The bits of a mask turned over in a byte; past the end nothing is.
+// The bits of a mask turned over in one byte; past the end nothing is.
 pub(crate) fn change(bytes: &mut [u8], at: usize, mask: u8) {
     if at < bytes.len() {
         bytes[at] = bytes[at] ^ mask;
     }
-}
-
-// A number of four bytes, low first.
-pub(crate) fn joined(a: u8, b: u8, c: u8, d: u8) -> u32 {
-    a as u32 + 256 * (b as u32) + 65536 * (c as u32) + 16777216 * (d as u32)
 }

@@ -1,20 +1,18 @@
-// Archives written and read by a list on standard input: an archive that is held, the room that the next is written in, and a
-// picture. The files stdin and stdout were made from document 02.
+// Archives written and read, by a list on standard input. There is an archive that is held, room for the next, and a picture. The
+// files stdin and stdout were made from document 02.
 //
-// The list is groups of six numbers, each of four bytes, low first: op a b c d e. Op 0 prints the a bytes of text that follow; 1
-// starts an archive in a room of a bytes; 2 adds the frame of bench a, number b and shown c, from d bytes of the picture, in a room
-// of e bytes; 3 holds what was written; 4 gives the picture the pattern of a; 5 turns the bits b over in byte a of the archive
-// held; 6 makes its length a; 7 reads entry a into b bytes of a picture of pattern c. The others ask: 8 the count; 9 entry a;
-// 10 entry a as it stands; 11 where bench a and number b stand; 12 whether bench a and shown b are in range; 13 b bytes from a on.
-mod asking;
+// The list is groups of 16 bytes: four numbers, op a b c, each low first. Op 0 prints the 64 bytes that follow. 1 makes the archive
+// held a bytes long; 2 the room a bytes; 3 the picture a bytes, with the pattern b. 4 starts an archive in the room; 5 adds the
+// picture as the frame of bench a, number b and shown c; 6 holds what was written; 7 turns over the bits b in byte a of the archive
+// held. 8 reads entry a into the picture; 9 asks for the count, 10 for entry a, 11 for entry a as it stands, 12 where bench a and
+// number b stand, 13 whether bench a and shown b are in range; 14 prints the bytes from a up to b. Any other does nothing.
 mod bytes;
+mod calls;
 mod print;
-mod writing;
 
 use crate::bytes::change;
 use crate::bytes::fill;
-use crate::bytes::joined;
-use crate::bytes::part;
+use crate::bytes::least;
 use libc::STDIN_FILENO;
 
 struct Group {
@@ -23,99 +21,105 @@ struct Group {
     a: u32,
     b: u32,
     c: u32,
-    d: u32,
-    e: u32,
 }
 
-// The length of the archive held, and of what was written last.
+// How many bytes the archive held, the room and the picture have, and the archive that was written last.
 struct Lengths {
     held: usize,
+    room: usize,
+    picture: usize,
     written: usize,
+}
+
+// A number of four bytes, low first.
+fn joined(a: u8, b: u8, c: u8, d: u8) -> u32 {
+    a as u32 + 256 * (b as u32) + 65536 * (c as u32) + 16777216 * (d as u32)
 }
 
 // The next group of the list, if there is one.
 fn next_group() -> Group {
-    let mut g = [0u8; 24];
+    let mut g = [0u8; 16];
     let got = io::read_full(STDIN_FILENO, &mut g);
     Group {
-        read: got == 24,
+        read: got == 16,
         op: joined(g[0], g[1], g[2], g[3]),
         a: joined(g[4], g[5], g[6], g[7]),
         b: joined(g[8], g[9], g[10], g[11]),
         c: joined(g[12], g[13], g[14], g[15]),
-        d: joined(g[16], g[17], g[18], g[19]),
-        e: joined(g[20], g[21], g[22], g[23]),
     }
 }
 
-// Prints text of the list.
-fn title(n: u32) {
-    let mut t = [0u8; 80];
-    let end = part(n as usize, 80);
-    io::read_full(STDIN_FILENO, &mut t[..end]);
-    print::text(&t[..end]);
+fn title() {
+    let mut t = [0u8; 64];
+    io::read_full(STDIN_FILENO, &mut t);
+    print::text(&t);
 }
 
-// Holds what was written.
-fn hold(l: Lengths, held: &mut [u8], room: &[u8]) -> Lengths {
-    let n = part(l.written, room.len());
-    byte_rows::copy(&room[..n], held, 0);
-    Lengths {
-        held: n,
-        written: n,
-    }
-}
-
-// A group that leaves the lengths.
-fn stay(g: Group, n: usize, held: &mut [u8], picture: &mut [u8]) {
+// A group that writes neither archive nor room.
+fn ask(g: Group, a: &[u8], picture: &mut [u8]) {
     let op = g.op;
     match op {
-        0 => title(g.a),
-        4 => fill(picture, g.a as usize),
-        5 => change(held, g.a as usize, (g.b % 256) as u8),
+        0 => title(),
+        3 => fill(picture, g.b as usize),
+        8 => calls::read(a, g.a, picture),
+        9 => calls::count(a),
+        10 => calls::entry(a, g.a),
+        11 => calls::stands(a, g.a),
+        12 => calls::find(a, g.a, g.b),
+        13 => calls::in_range(g.a, g.b),
+        14 => print::bytes(a, g.a as usize, g.b as usize),
+        _ => {}
+    }
+}
+
+// One group, on the bytes that are lent. The length of the archive that was written last comes back.
+fn serve(g: Group, last: usize, a: &mut [u8], room: &mut [u8], picture: &mut [u8]) -> usize {
+    let op = g.op;
+    match op {
+        4 => calls::start(room),
+        5 => calls::add(a, g.a, g.b, g.c, picture, room),
         7 => {
-            let end = part(n, held.len());
-            writing::read(&held[..end], g.a, picture, g.b, g.c);
+            change(a, g.a as usize, (g.b % 256) as u8);
+            last
         }
         _ => {
-            let end = part(n, held.len());
-            asking::ask(&held[..end], op, g.a, g.b);
+            ask(g, a, picture);
+            last
         }
     }
 }
 
-// An archive started or added to: the length of what was written.
-fn write(g: Group, n: usize, held: &[u8], room: &mut [u8], picture: &[u8]) -> usize {
-    if g.op == 1 {
-        return writing::start(room, g.a);
+// The lengths that a group asks for.
+fn resized(l: Lengths, op: u32, n: usize) -> Lengths {
+    let mut after = l;
+    match op {
+        1 => {
+            after.held = n;
+        }
+        2 => {
+            after.room = n;
+        }
+        3 => {
+            after.picture = n;
+        }
+        6 => {
+            after.held = l.written;
+        }
+        _ => {}
     }
-    let end = part(n, held.len());
-    let size = part(g.d as usize, picture.len());
-    writing::add(&held[..end], g.a, g.b, g.c, &picture[..size], room, g.e)
+    after
 }
 
 // One group of the list.
-fn take(
-    l: Lengths,
-    g: Group,
-    held: &mut [u8],
-    room: &mut [u8],
-    picture: &mut [u8],
-) -> Lengths {
-    let mut after = l;
-    let op = g.op;
-    match op {
-        1 | 2 => {
-            after.written = write(g, l.held, held, room, picture);
-        }
-        3 => {
-            after = hold(l, held, room);
-        }
-        6 => {
-            after.held = g.a as usize;
-        }
-        _ => stay(g, l.held, held, picture),
+fn take(l: Lengths, g: Group, held: &mut [u8], room: &mut [u8], picture: &mut [u8]) -> Lengths {
+    if g.op == 6 {
+        byte_rows::copy(room, held, 0);
     }
+    let mut after = resized(l, g.op, g.a as usize);
+    let h = least(after.held, held.len());
+    let r = least(after.room, room.len());
+    let p = least(after.picture, picture.len());
+    after.written = serve(g, l.written, &mut held[..h], &mut room[..r], &mut picture[..p]);
     after
 }
 
@@ -123,6 +127,8 @@ fn take(
 fn play(held: &mut [u8], room: &mut [u8], picture: &mut [u8]) {
     let mut l = Lengths {
         held: 0,
+        room: 0,
+        picture: 0,
         written: 0,
     };
     let mut turns = u64::MAX;

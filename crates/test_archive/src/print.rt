@@ -1,4 +1,5 @@
 // Prints texts, numbers and answers to standard output: bytes in hex, all else in decimal.
+use crate::bytes::least;
 use crate::bytes::sum;
 use archive::Entry;
 use archive::EntryRead;
@@ -15,18 +16,25 @@ pub(crate) fn number(label: &[u8], n: u64) {
     io::print_decimal(STDOUT_FILENO, n);
 }
 
-pub(crate) fn refusal(n: u8) {
-    number(b" refusal ", n as u64);
+fn byte(n: u8) {
+    text(b" ");
+    io::print_hex(STDOUT_FILENO, n as u64, 2);
 }
 
 pub(crate) fn flag(label: &[u8], on: bool) {
     number(label, on as u64);
 }
 
+// The end of a line.
+pub(crate) fn refusal(n: u8) {
+    number(b" refusal ", n as u64);
+    text(b"\n");
+}
+
 pub(crate) fn fields(e: Entry) {
-    number(b": ", e.bench as u64);
-    number(b" ", e.number as u64);
-    number(b" ", e.shown as u64);
+    number(b": bench ", e.bench as u64);
+    number(b" number ", e.number as u64);
+    number(b" shown ", e.shown as u64);
     number(b" offset ", e.offset as u64);
 }
 
@@ -38,24 +46,24 @@ pub(crate) fn entry(e: EntryRead) {
 pub(crate) fn index(i: Index) {
     match i {
         Index::At(k) => number(b": at ", k as u64),
-        Index::Nothing => text(b": nothing,"),
+        Index::Nothing => text(b": nothing"),
     }
 }
 
-// The answer, then a sum of what was written and a sum of the room behind it.
-pub(crate) fn written(w: Written, front: &[u8], behind: &[u8]) {
+// The answer, after a sum of the room that was written and one of the room behind it.
+pub(crate) fn written(w: Written, room: &[u8]) {
+    let end = least(w.length, room.len());
     number(b": length ", w.length as u64);
+    number(b" sum ", sum(room, 0, end));
+    number(b" behind ", sum(room, end, room.len()));
     refusal(w.refusal);
-    number(b" written ", sum(front));
-    number(b" behind ", sum(behind));
-    text(b"\n");
 }
 
-pub(crate) fn bytes(s: &[u8]) {
-    let n = s.len();
-    for i in 0..n {
-        text(b" ");
-        io::print_hex(STDOUT_FILENO, s[i] as u64, 2);
+// The bytes from one index up to another, or the last.
+pub(crate) fn bytes(a: &[u8], from: usize, end: usize) {
+    let n = least(end, a.len());
+    for i in from..n {
+        byte(a[i]);
     }
     text(b"\n");
 }

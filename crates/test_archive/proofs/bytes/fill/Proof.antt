@@ -1,46 +1,40 @@
+-- `fill` is safe and ends: the loop counts to the slice's length, which stores keep.
+use Prim.Native.Nat.{_≤_, _-_}
+use mathlib.Core.Path.{_≡_}
+use lib.ListN.{length}
+use borrow.Author.Needs.{needs}
 use Rattle.test_archive.proofs.bytes.fill.Statement.{statement}
 use Rattle.test_archive.proofs.bytes.fill.Tie as tie
-use Rattle.test_archive.proofs.bytes.fill.Reads as reads
-use Rattle.test_archive.proofs.bytes.fill.Lts as lts
-use Rattle.test_archive.proofs.bytes.pattern.Reads as pattern-reads
 
 abbrev Inv-loop : tie.InvT-loop
-Inv-loop bytes₀ first n i₀ bytes i = ?
+Inv-loop bytes₀ first n i₀ bytes i = (length bytes ≡ length bytes₀) × ((n ≡ length bytes₀) × (i ≤ n))
 
 abbrev μ-loop : tie.MeasureT-loop
-μ-loop bytes₀ first n i₀ bytes i = ?
+μ-loop bytes₀ first n i₀ bytes i = n - i
 
--- src/bytes.rt:11:5
 loop-holds : tie.Need-loop-holds Inv-loop μ-loop
-loop-holds c = ?
+loop-holds c = search needs
 
--- src/bytes.rt:12:20
 pattern-requires : tie.Need-pattern-requires Inv-loop μ-loop
-pattern-requires c κs = ?
+pattern-requires c κs = search needs
 
--- src/bytes.rt:12:9
 slice-write-bytes : tie.Need-slice-write-bytes Inv-loop μ-loop
-slice-write-bytes c = ?
+slice-write-bytes c = search needs
 
--- src/bytes.rt:11:9
 add-i : tie.Need-add-i Inv-loop μ-loop
-add-i c = ?
+add-i c = search needs
 
--- src/bytes.rt:11:5
 loop-less : tie.Need-loop-less Inv-loop μ-loop
-loop-less c = ?
+loop-less c = search needs
 
--- src/bytes.rt:11:5
 loop-again : tie.Need-loop-again Inv-loop μ-loop
-loop-again c = ?
+loop-again c = search needs
 
--- src/bytes.rt:9:1
 same-length : tie.Need-same-length Inv-loop μ-loop
-same-length c = ?
+same-length c = search needs
 
--- src/bytes.rt:9:1
 returns : tie.Need-returns Inv-loop μ-loop
-returns c = ?
+returns c = search needs
 
 pub fill-spec : {M : Type 1} → statement M
 fill-spec =

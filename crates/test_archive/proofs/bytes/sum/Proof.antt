@@ -1,50 +1,41 @@
+-- `sum` is safe and ends: the loop counts to `end`, which is no more than the length.
+use Prim.Native.Nat.{_-_}
+use borrow.Author.Needs.{needs}
 use Rattle.test_archive.proofs.bytes.sum.Statement.{statement}
 use Rattle.test_archive.proofs.bytes.sum.Tie as tie
-use Rattle.test_archive.proofs.bytes.sum.Reads as reads
-use Rattle.test_archive.proofs.bytes.sum.Lts as lts
-use Rattle.test_archive.proofs.bytes.wide.Reads as wide-reads
 
 abbrev Inv-loop : tie.InvT-loop
-Inv-loop bytes s₀ i₀ s i = ?
+Inv-loop bytes from end s₀ i₀ s i = Unit {0}
 
 abbrev μ-loop : tie.MeasureT-loop
-μ-loop bytes s₀ i₀ s i = ?
+μ-loop bytes from end s₀ i₀ s i = end - i
 
--- src/bytes.rt:26:5
 loop-holds : tie.Need-loop-holds Inv-loop μ-loop
-loop-holds c = ?
+loop-holds c = search needs
 
--- src/bytes.rt:27:14
 mul-s : tie.Need-mul-s Inv-loop μ-loop
-mul-s c = ?
+mul-s c = search needs
 
--- src/bytes.rt:27:42
 shared-slice-read-wide : tie.Need-shared-slice-read-wide Inv-loop μ-loop
-shared-slice-read-wide c = ?
+shared-slice-read-wide c = search needs
 
--- src/bytes.rt:27:37
 wide-requires : tie.Need-wide-requires Inv-loop μ-loop
-wide-requires c κs = ?
+wide-requires c κs = search needs
 
--- src/bytes.rt:27:14
 add-s : tie.Need-add-s Inv-loop μ-loop
-add-s c = ?
+add-s c = search needs
 
--- src/bytes.rt:28:9
 add-i : tie.Need-add-i Inv-loop μ-loop
-add-i c = ?
+add-i c = search needs
 
--- src/bytes.rt:26:5
 loop-less : tie.Need-loop-less Inv-loop μ-loop
-loop-less c = ?
+loop-less c = search needs
 
--- src/bytes.rt:26:5
 loop-again : tie.Need-loop-again Inv-loop μ-loop
-loop-again c = ?
+loop-again c = search needs
 
--- src/bytes.rt:23:1
 returns : tie.Need-returns Inv-loop μ-loop
-returns c = ?
+returns c = search needs
 
 pub sum-spec : {M : Type 1} → statement M
 sum-spec =

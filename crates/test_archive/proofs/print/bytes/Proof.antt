@@ -1,63 +1,45 @@
+-- `bytes` is safe and ends: the loop counts to an index that is no more than the length.
+use Prim.Native.Nat.{_≤_, _-_}
+use lib.ListN.{length}
+use borrow.Author.Needs.{needs}
 use Rattle.test_archive.proofs.print.bytes.Statement.{statement}
 use Rattle.test_archive.proofs.print.bytes.Tie as tie
-use Rattle.test_archive.proofs.print.bytes.Reads as reads
-use Rattle.test_archive.proofs.print.bytes.Lts as lts
-use Rattle.io.proofs.print_hex.Reads as print-hex-reads
-use Rattle.test_archive.proofs.print.text.Reads as text-reads
 
 abbrev Inv-loop : tie.InvT-loop
-Inv-loop s n i₀ t4 t5 i = ?
+Inv-loop a from end n i₀ t6 i = n ≤ length a
 
 abbrev μ-loop : tie.MeasureT-loop
-μ-loop s n i₀ t4 t5 i = ?
+μ-loop a from end n i₀ t6 i = n - i
 
--- src/print.rt:56:5
+least-requires : tie.Need-least-requires Inv-loop μ-loop
+least-requires c κs = search needs
+
 loop-holds : tie.Need-loop-holds Inv-loop μ-loop
-loop-holds c = ?
+loop-holds c = search needs
 
--- src/print.rt:57:14
-slice-aggregate-text : tie.Need-slice-aggregate-text Inv-loop μ-loop
-slice-aggregate-text c = ?
+shared-slice-read-byte : tie.Need-shared-slice-read-byte Inv-loop μ-loop
+shared-slice-read-byte c = search needs
 
--- src/print.rt:57:9
-text-requires : tie.Need-text-requires Inv-loop μ-loop
-text-requires c κs = ?
+byte-requires : tie.Need-byte-requires Inv-loop μ-loop
+byte-requires c κs = search needs
 
--- src/print.rt:58:38
-shared-slice-read-print-hex : tie.Need-shared-slice-read-print-hex Inv-loop μ-loop
-shared-slice-read-print-hex c = ?
-
--- src/print.rt:58:38
-cast-print-hex : tie.Need-cast-print-hex Inv-loop μ-loop
-cast-print-hex c = ?
-
--- src/print.rt:58:9
-print-hex-requires : tie.Need-print-hex-requires Inv-loop μ-loop
-print-hex-requires c κs = ?
-
--- src/print.rt:56:9
 add-i : tie.Need-add-i Inv-loop μ-loop
-add-i c = ?
+add-i c = search needs
 
--- src/print.rt:56:5
 loop-less : tie.Need-loop-less Inv-loop μ-loop
-loop-less c = ?
+loop-less c = search needs
 
--- src/print.rt:56:5
 loop-again : tie.Need-loop-again Inv-loop μ-loop
-loop-again c = ?
+loop-again c = search needs
 
--- src/print.rt:60:10
-slice-aggregate-text-2 : tie.Need-slice-aggregate-text-2 Inv-loop μ-loop
-slice-aggregate-text-2 c = ?
+slice-aggregate-text : tie.Need-slice-aggregate-text Inv-loop μ-loop
+slice-aggregate-text c = search needs
 
--- src/print.rt:60:5
-text-requires-2 : tie.Need-text-requires-2 Inv-loop μ-loop
-text-requires-2 c κs = ?
+text-requires : tie.Need-text-requires Inv-loop μ-loop
+text-requires c κs = search needs
 
--- src/print.rt:54:1
 returns : tie.Need-returns Inv-loop μ-loop
-returns c = ?
+returns c = search needs
 
 pub bytes-spec : {M : Type 1} → statement M
 bytes-spec =
@@ -65,15 +47,13 @@ bytes-spec =
     (tie.spec
     Inv-loop
     μ-loop
+    least-requires
     loop-holds
-    slice-aggregate-text
-    text-requires
-    shared-slice-read-print-hex
-    cast-print-hex
-    print-hex-requires
+    shared-slice-read-byte
+    byte-requires
     add-i
     loop-less
     loop-again
-    slice-aggregate-text-2
-    text-requires-2
+    slice-aggregate-text
+    text-requires
     returns)
