@@ -1,4 +1,5 @@
 pub mod Asking
+pub mod Examples
 pub mod Listing
 pub mod Pairs
 pub mod Read
