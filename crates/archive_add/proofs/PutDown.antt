@@ -9,8 +9,9 @@ use mathlib.Core.List.{List, [], _∷_, _++_, append-assoc, append-nil}
 use lib.ListN.{length, take, drop, length-append, length-drop, take-append-drop, List·getD-append}
 use lib.Seq.{length-take-le, getD-at, take-all}
 use Rattle.facts.specs.Lists.{inRoom}
+use Rattle.facts.proofs.Rooms.{room-length}
 use Rattle.byte_rows.specs.Rows.{put, copied, zeros, rows}
-use Rattle.byte_rows.proofs.Rows.{rest-all, rows-length, put-put, put-start, put-length, room-put-at, room-length, copied-fits, rows-same, rows-take}
+use Rattle.byte_rows.proofs.Rows.{rest-all, rows-length, put-put, put-start, put-length, room-put-at, copied-fits, rows-same, rows-take}
 use Rattle.archive.specs.Format.{Frame, noFrame, frameIn, archiveOf, written, shownOf, entryRow, pictureRow, entry, header, picturePlace}
 use Rattle.archive.specs.Sound.{sound, framesOf, frameAt, countOf, entryOf, benchAt, numberAt, shownAt}
 use Rattle.byte_rows.specs.Numbers.{number4}

@@ -86,9 +86,10 @@ module _ (fs : List Frame) (s : storable fs ≡ true) (c : Add) (small : c .numb
       let same : frameIn gs k ≡ frameIn fs k = front-same fs (frameAdded c ∷ []) k l in
       let r = rw same at (reads gs sg k m) in
       let o = reads fs s k l in
-      rw (taken-archive fs c s z small)
-      ((r .0, r .1 ∙ sym (o .1), r .2 ∙ sym (o .2), r .3 ∙ sym (o .3)),
-      reads-lines gs sg k m picture w ∙ ap (λ (f : Frame). inRoom (f .lines) picture) same ∙ sym (reads-lines fs s k l picture w))
+      rw (taken-archive fs c s z small) (
+        (r .0, r .1 ∙ sym (o .1), r .2 ∙ sym (o .2), r .3 ∙ sym (o .3)),
+        reads-lines gs sg k m picture w ∙ ap (λ (f : Frame). inRoom (f .lines) picture) same ∙ sym (reads-lines fs s k l picture w),
+      )
 
 pub read-after-add : ReadAfterAdd
 read-after-add a c picture bytes small z w =

@@ -37,11 +37,11 @@ module _ (fs gs : List Frame) where
       rw (le-leb (length fs) 1000 (omega arith))
       (below-all (frameStorable (frameIn fs)) (length fs)
       (λ k l.
-          let m : k < length (fs ++ gs) = omega arith in
-          let p = frame-of (fs ++ gs) h k m in
-          let g : frameGood (frameIn fs k) ≡ true = rw (front-same k l) at (p .0) in
-          let f : fresh (frameIn fs) k ≡ true = sym (fresh-same (frameIn (fs ++ gs)) (frameIn fs) (length fs) front-same k l) ∙ p .1 in
-          rw (g, f)))
+      let m : k < length (fs ++ gs) = omega arith in
+      let p = frame-of (fs ++ gs) h k m in
+      let g : frameGood (frameIn fs k) ≡ true = rw (front-same k l) at (p .0) in
+      let f : fresh (frameIn fs) k ≡ true = sym (fresh-same (frameIn (fs ++ gs)) (frameIn fs) (length fs) front-same k l) ∙ p .1 in
+      rw (g, f)))
 
 -- one frame more
 module _ (fs : List Frame) (f : Frame) where
@@ -63,7 +63,7 @@ module _ (fs : List Frame) (f : Frame) where
       let old : every (frameStorable (frameIn (fs ++ (f ∷ [])))) 0 (length fs) ≡ true =
       below-all (frameStorable (frameIn (fs ++ (f ∷ [])))) (length fs)
       (λ k l.
-          rw (front-same fs (f ∷ []) k l, fresh-same (frameIn (fs ++ (f ∷ []))) (frameIn fs) (length fs) (front-same fs (f ∷ [])) k l, frame-of fs s k l .0, frame-of fs s k l .1)) in
+      rw (front-same fs (f ∷ []) k l, fresh-same (frameIn (fs ++ (f ∷ []))) (frameIn fs) (length fs) (front-same fs (f ∷ [])) k l, frame-of fs s k l .0, frame-of fs s k l .1)) in
       let last : frameStorable (frameIn (fs ++ (f ∷ []))) (length fs) ≡ true = rw (last-is, fresh-last, good, new) in
       rw (count-more, le-leb (length fs + 1) 1000 (omega arith)) (below-more (frameStorable (frameIn (fs ++ (f ∷ [])))) (length fs) old last)
 

@@ -58,8 +58,8 @@ breaks n fs [] s none l h = absurd (true≢false (sym s ∙ rw append-nil at h))
 breaks n fs (c ∷ cs) s (more p ps) l h =
     go (eqb (refusalOf (archiveOf fs) c) 0) refl
     (λ (z : refusalOf (archiveOf fs) c ≡ 0).
-        let m : length (fs ++ (frameAdded c ∷ [])) + length cs ≤ n = rw length-append (omega arith) in
-        breaks n (fs ++ (frameAdded c ∷ [])) cs (taken-storable fs c s z (p .number)) ps m (rw append-snoc h))
+    let m : length (fs ++ (frameAdded c ∷ [])) + length cs ≤ n = rw length-append (omega arith) in
+    breaks n (fs ++ (frameAdded c ∷ [])) cs (taken-storable fs c s z (p .number)) ps m (rw append-snoc h))
   where
     here : (refusalOf (archiveOf fs) c ≡ 0 → ⊥) → FirstBreak (archiveOf fs) fs (c ∷ cs)
     here ne = record {

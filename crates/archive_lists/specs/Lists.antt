@@ -83,10 +83,11 @@ abbrev pub RefusedAtItsFirstBreak : Type 0
 RefusedAtItsFirstBreak =
     (room : List ℕ) (cs : List Add) → 20 ≤ length room → AllProper (length cs) cs → storable (map frameAdded cs) ≡ false → FirstBreak (started room) [] cs
 
--- "a book that reads is the only book of its list and fills what is lent"
+-- what a lent slice holds
 abbrev pub Bytes : List ℕ → Type 0
 Bytes a = (j : ℕ) → getD a j 0 < 256
 
+-- "a book that reads is the only book of its list and fills what is lent"
 abbrev pub OnlyArchive : Type 0
 OnlyArchive =
     (a : List ℕ) → Bytes a → sound a ≡ true

@@ -12,6 +12,7 @@ use lib.Dec.{ltb, leb}
 use lib.ListN.{length, getD, set, take, drop, length-append, length-drop}
 use lib.Seq.{paste, paste-zero, length-paste, paste-suc, sets-eq, take-at, drop-at, take-add, take-length, take-all, take-append-seam, drop-append-add, drop-drop, length-take-le, ext-getD, getD-take, getD-drop}
 use Rattle.facts.specs.Lists.{inRoom}
+use Rattle.facts.proofs.Rooms.{room-step}
 use Rattle.byte_rows.specs.Rows.{rows, zeros, put, copied}
 
 -- ---- a list behind another
@@ -106,21 +107,13 @@ zeros-behind b p m w h l z =
 
 -- ---- lists put down one after the other
 
-pub room-length : (text out : List ℕ) → length text ≤ length out → length (inRoom text out) ≡ length out
-unfolding inRoom
-room-length text out h = simp (length-append, length-drop) (omega arith)
-
 pub put-length : (out : List ℕ) (to : ℕ) (x : List ℕ) → to + length x ≤ length out → length (put out to x) ≡ length out
 unfolding put
 put-length out to x h = simp (length-append, length-drop, length-take-le to out (omega arith)) (omega arith)
 
 pub room-put : (t x out : List ℕ) → put (inRoom t out) (length t) x ≡ inRoom (t ++ x) out
-unfolding inRoom put
-room-put t x out = rw (take-append-seam, drop-append-add, drop-drop, length-append)
-
-pub room-nothing : (out : List ℕ) → out ≡ inRoom [] out
-unfolding inRoom
-room-nothing out = refl
+unfolding put
+room-put t x out = room-step t x out
 
 pub put-four : (l : List ℕ) (i a b c d : ℕ) → i + 4 ≤ length l
     → set (set (set (set l i a) (i + 1) b) (i + 2) c) (i + 3) d ≡ put l i (a ∷ b ∷ c ∷ d ∷ [])

@@ -1,4 +1,5 @@
 pub mod Bits
 pub mod Bools
 pub mod Overlaid
+pub mod Rooms
 pub mod Tests

@@ -8,8 +8,9 @@ use native.Mathlib.Numerals.{add-one}
 use borrow.Author.Tests.{not-true, not-false, lt-ltb, le-ltb, ltb-false}
 use lib.Dec.{ltb, lit≤}
 use lib.ListN.{length, take, drop, length-append, length-take, length-drop}
-use lib.Seq.{paste, take-append-seam, drop-append-add, drop-drop, length-take-le}
+use lib.Seq.{paste, length-take-le}
 use Rattle.facts.specs.Lists.{inRoom}
+use Rattle.facts.proofs.Rooms.{room-length, room-step}
 use Rattle.paging.specs.Maps.{allowed}
 use Rattle.reach.specs.declared.Listed.{Listed}
 use Rattle.reach.specs.Text.{sizesOf, pagingOf, addressOf, reachLine, refusalLine, wholeLine, groupLine}
@@ -60,10 +61,6 @@ text-length input zero = omega arith
 text-length input (suc k) =
     simp length-append (omega (arith, text-length input k, group-line-length (take 9 (drop (9 * k) input))))
 
-pub room-length : (text out : List ℕ) → length text ≤ length out → length (inRoom text out) ≡ length out
-unfolding inRoom
-room-length text out h = simp (length-append, length-drop) (omega arith)
-
 -- the copy of a line's bytes puts the line down
 module _ (d bytes line : List ℕ) (to used : ℕ) (text : take used bytes ≡ line) where
   pub used-length : used ≤ length bytes → to + used ≡ to + length line
@@ -71,10 +68,6 @@ module _ (d bytes line : List ℕ) (to used : ℕ) (text : take used bytes ≡ l
 
   pub pasted : paste d to bytes used ≡ take to d ++ line ++ drop (to + used) d
   pasted = rw text
-
-room-step : (t l out : List ℕ) → take (length t) (inRoom t out) ++ l ++ drop (length t + length l) (inRoom t out) ≡ inRoom (t ++ l) out
-unfolding inRoom
-room-step t l out = rw (take-append-seam, drop-append-add, drop-drop, length-append)
 
 -- one more line put down after the first k
 module _ (input start out : List ℕ) (k to : ℕ) (at : to ≡ length (textOf input k)) (so-far : out ≡ inRoom (textOf input k) start) where
@@ -91,10 +84,7 @@ module _ (input start out : List ℕ) (k to : ℕ) (at : to ≡ length (textOf i
   unfolding textOf
   next-out e f = rw (f, e, at, so-far, add-one) (room-step (textOf input k) (lineAt input k) start)
 
--- the text before the first line, and after the last
-pub room-nothing : (out : List ℕ) → out ≡ inRoom [] out
-unfolding inRoom
-room-nothing out = refl
+-- the text after the last line
 
 module _ (input start : List ℕ) where
   pub refused : length start / 20 < groups (length input) → (listed input (length start) ≡ record { length = 0; refusal = 2 }) × (listedOut input start ≡ start)

@@ -5,7 +5,8 @@ use native.Mathlib.Omega.{arith}
 use lib.ListN.{length}
 use Rattle.facts.specs.Lists.{inRoom}
 use Rattle.reach.specs.Text.{textOf, groups, reachText, lineAt}
-use Rattle.reach.proofs.Laws.{room, next-length, next-out, room-nothing, room-length, text-length}
+use Rattle.facts.proofs.Rooms.{room-nothing, room-length}
+use Rattle.reach.proofs.Laws.{room, next-length, next-out, text-length}
 use Rattle.reach.proofs.fill.Statement.{statement}
 use Rattle.reach.proofs.fill.Tie as tie
 
