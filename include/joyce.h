@@ -39,7 +39,7 @@ enum {
     JOYCE_STREAM_ENDED = 4,       /* fetch in boot mode, boot.at at or past the boot stream's end */
     JOYCE_NO_PORT = 5,            /* not a port (document 01: channel) of this board */
     JOYCE_BAD_ARCHIVE = 10,       /* not a sound archive */
-    JOYCE_BAD_FRAME = 11,         /* bench and number already there, a field out of range, or k not below the count */
+    JOYCE_BAD_FRAME = 11,         /* pair already there, a field out of range, k not below the count */
     JOYCE_NO_ROOM = 12            /* the archive is full, or its new length is over the room lent */
 };
 
@@ -168,22 +168,24 @@ int8_t joyce_roll(uint8_t old_top, uint8_t new_top);
 uint64_t joyce_reach(uint8_t internal, uint8_t total, uint8_t f0, uint8_t f1, uint8_t f2,
                      uint8_t f3, uint8_t lock, uint16_t address);
 
-/* An archive (document 02: a book of frames) keeps up to 1,000 frames in one run of bytes, so that it can be
- * written to a file as it is. A frame is a bench (1 to 65,535), a number (any of 32 bits), and its shown
- * lines (200 or 256 lines of 90 bytes); a bench and number stand once. Numbers are four bytes, low first:
+/* An archive (document 02: a book of frames) keeps up to 1,000 frames in one run of bytes, so that
+ * it can be written to a file as it is. A frame is a bench (1 to 65,535), a number (any of 32 bits)
+ * and its shown lines (200 or 256 lines of 90 bytes); a bench and number stand once. All numbers are
+ * four bytes, low first:
  *
  *   header    form 1, count n, offset of entries 20, offset of pictures 20 + 16n, length 20 + 23,056n
  *   entries   n times: bench, number, shown lines, offset of the picture
  *   pictures  n times 23,040 bytes in entry order, unshown lines zero
  *
- * Every function looks the whole archive over first and refuses with 10 what is not sound: another form,
- * count, offset or length than these, a length other than archive_len, a field out of range, a bench and
- * number twice, an unshown line that is not zero. So two sound archives of the same frames are the same
- * bytes. Nothing is written by a call that is refused, and nothing behind what a call writes. */
-#define JOYCE_ARCHIVE_MAX 1000u                                    /* frames in the largest archive */
-#define JOYCE_ARCHIVE_LENGTH(n) ((size_t)20u + (size_t)23056u * (n))   /* bytes in an archive of n frames */
+ * Every function looks the whole archive over first and refuses with 10 what is not sound: a form,
+ * count, offset or length other than these, or a length other than archive_len, a field out of
+ * range, a bench and number twice, an unshown line that is not zero. So two sound archives of the
+ * same frames are the same bytes. A call that is refused writes nothing, and no call writes behind
+ * what it says. */
+#define JOYCE_ARCHIVE_MAX 1000u                                     /* frames in the largest archive */
+#define JOYCE_ARCHIVE_LENGTH(n) ((size_t)20u + (size_t)23056u * (n)) /* bytes in an archive of n */
 
-/* Writes the archive of no frames, 20 bytes, to the front of the room. Reply: length (20), refusal 12. */
+/* Writes the archive of no frames to the front of the room. Reply: length (20), refusal 12. */
 uint64_t joyce_archive_start(uint8_t *room, size_t room_len);
 
 /* How many frames an archive holds. Reply: frames, refusal 10. */
@@ -193,19 +195,20 @@ uint64_t joyce_archive_count(const uint8_t *archive, size_t archive_len);
 uint64_t joyce_archive_entry(const uint8_t *archive, size_t archive_len, uint32_t k);
 
 /* Which entry has a bench and number. Reply: found, index, refusal 10. */
-uint64_t joyce_archive_find(const uint8_t *archive, size_t archive_len, uint32_t bench, uint32_t number);
+uint64_t joyce_archive_find(const uint8_t *archive, size_t archive_len, uint32_t bench,
+                            uint32_t number);
 
-/* Writes the shown lines of entry k to the front of a picture of 23,040 bytes, and no other byte of it.
- * Reply: bench, number, shown, refusal 2, 10 or 11. */
+/* Writes the shown lines of entry k to the front of a picture of 23,040 bytes, and no other byte of
+ * it. Reply: bench, number, shown, refusal 2, 10 or 11. */
 uint64_t joyce_archive_read(const uint8_t *archive, size_t archive_len, uint32_t k,
                             uint8_t *picture, size_t picture_len);
 
-/* Writes an archive with one frame more, its last, to the front of the room: the one lent stays as it is.
- * Of the picture, 23,040 bytes, the first 200 or 256 lines are taken, as shown says. Reply: length (that of
- * the new archive), refusal 2, 10, 11 or 12. */
-uint64_t joyce_archive_add(const uint8_t *archive, size_t archive_len, uint32_t bench, uint32_t number,
-                           uint32_t shown, const uint8_t *picture, size_t picture_len,
-                           uint8_t *room, size_t room_len);
+/* Writes an archive with one frame more, its last, to the front of the room; the one lent stays as
+ * it is. Of the picture, 23,040 bytes, the first 200 or 256 lines are taken, as shown says. Reply:
+ * length (that of the new archive), refusal 2, 10, 11 or 12. */
+uint64_t joyce_archive_add(const uint8_t *archive, size_t archive_len, uint32_t bench,
+                           uint32_t number, uint32_t shown, const uint8_t *picture,
+                           size_t picture_len, uint8_t *room, size_t room_len);
 
 /* The parts of a reply. Each is 0 where there is none. */
 static inline uint8_t joyce_byte(uint64_t reply) { return (uint8_t)reply; }            /* of a step */
@@ -225,14 +228,13 @@ static inline uint16_t joyce_word(uint64_t reply) { return (uint16_t)reply; }   
 static inline uint8_t joyce_block(uint64_t reply) { return (uint8_t)(reply >> 40); }   /* of a read pointer */
 static inline uint16_t joyce_start(uint64_t reply) { return (uint16_t)reply; }         /* of a read pointer */
 
-/* The parts of a reply about an archive: these, joyce_refusal, and joyce_found of a find. */
-static inline uint32_t joyce_archive_length(uint64_t reply) { return (uint32_t)reply; }     /* of a start or an add */
-static inline uint32_t joyce_archive_frames(uint64_t reply) { return (uint32_t)reply; }     /* of a count */
-static inline uint16_t joyce_archive_index(uint64_t reply) { return (uint16_t)reply; }      /* of a find */
-static inline uint32_t joyce_archive_number(uint64_t reply) { return (uint32_t)reply; }     /* of an entry or a read */
+/* The parts of a reply about an archive: these, joyce_refusal, and of a find joyce_found. */
+static inline uint32_t joyce_archive_length(uint64_t reply) { return (uint32_t)reply; }  /* of a start, an add */
+static inline uint32_t joyce_archive_frames(uint64_t reply) { return (uint32_t)reply; }  /* of a count */
+static inline uint16_t joyce_archive_index(uint64_t reply) { return (uint16_t)reply; }   /* of a find */
+static inline uint32_t joyce_archive_number(uint64_t reply) { return (uint32_t)reply; }  /* of an entry, a read */
 static inline uint16_t joyce_archive_bench(uint64_t reply) { return (uint16_t)(reply >> 40); }
-static inline uint16_t joyce_archive_shown(uint64_t reply)                                  /* 200, 256 or 0 */
-{
+static inline uint16_t joyce_archive_shown(uint64_t reply) {                             /* 200, 256 or 0 */
     return reply >> 57 & 1 ? 256 : reply >> 56 & 1 ? 200 : 0;
 }
 

@@ -84,8 +84,7 @@ module _ (input start out : List ℕ) (k to : ℕ) (at : to ≡ length (textOf i
   unfolding textOf
   next-out e f = rw (f, e, at, so-far, add-one) (room-step (textOf input k) (lineAt input k) start)
 
--- the text after the last line
-
+-- the answer: refused, or accepted
 module _ (input start : List ℕ) where
   pub refused : length start / 20 < groups (length input) → (listed input (length start) ≡ record { length = 0; refusal = 2 }) × (listedOut input start ≡ start)
   unfolding listed listedOut
