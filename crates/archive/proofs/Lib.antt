@@ -1,5 +1,6 @@
 pub mod Asking
 pub mod Examples
+pub mod Fours
 pub mod Listing
 pub mod Pairs
 pub mod Read

@@ -1,43 +1,16 @@
--- The search for a bench and number: one comparison of a word is one of both numbers; the search from its start, a turn, and its end.
+-- The search for a bench and number: from its start, a turn, and its end.
 -- Assumes nothing.
-use Prim.Native.Nat.{ℕ, zero, suc, _+_, _-_, _*_, _≤_, _<_}
-use native.Mathlib.Nat.{add-zero}
+use Prim.Native.Nat.{ℕ, zero, suc, _+_, _-_, _≤_, _<_}
 use native.Mathlib.Numerals.{add-one}
 use native.Mathlib.Omega.{arith}
 use mathlib.Core.Path.{_≡_, refl, sym, ap, _∙_}
 use mathlib.Core.Bool.{Bool, true, false, not, cond, _&&_, true≢false}
-use mathlib.Core.List.{List}
-use borrow.Author.Tests.{eq-eqb, eqb-true}
-use lib.Dec.{eqb}
 use Rattle.facts.specs.Tests.{every}
-use Rattle.byte_rows.specs.Numbers.{at4}
 use Rattle.archive.specs.declared.search.Index.{Index}
 use Rattle.archive.specs.declared.search.Index.the-variants.{At, Nothing}
-use Rattle.archive.specs.Format.{Frame, entryPlace}
-use Rattle.archive.specs.Sound.{benchAt, numberAt, frameAt, hasPair, isNew}
+use Rattle.archive.specs.Format.{Frame}
+use Rattle.archive.specs.Sound.{hasPair, isNew}
 use Rattle.archive.specs.Answers.{firstOf}
-
--- ---- one word for two numbers
-
-module _ (a : List ℕ) (j bench number r : ℕ) (word : r ≡ at4 a (20 + 16 * j) + 4294967296 * at4 a (20 + 16 * j + 4)) (low : at4 a (20 + 16 * j) < 4294967296)
-    (small : bench < 4294967296) where
-  pub pair-here : r ≡ bench + 4294967296 * number → hasPair (frameAt a) bench number j ≡ true
-  unfolding hasPair frameAt benchAt numberAt entryPlace
-  pair-here h = rw (eq-eqb (at4 a (20 + 16 * j)) bench (omega arith), eq-eqb (at4 a (20 + 16 * j + 4)) number (omega arith))
-
-  pub pair-not : (r ≡ bench + 4294967296 * number → ⊥) → hasPair (frameAt a) bench number j ≡ false
-  unfolding hasPair frameAt benchAt numberAt entryPlace
-  pair-not h = go (eqb (at4 a (20 + 16 * j)) bench) refl (eqb (at4 a (20 + 16 * j + 4)) number) refl
-    where
-      go : (x : Bool) → eqb (at4 a (20 + 16 * j)) bench ≡ x → (y : Bool) → eqb (at4 a (20 + 16 * j + 4)) number ≡ y → (x && y) ≡ false
-      go true e true f =
-          let s : at4 a (20 + 16 * j) ≡ bench = eqb-true (at4 a (20 + 16 * j)) bench e in
-          let t : at4 a (20 + 16 * j + 4) ≡ number = eqb-true (at4 a (20 + 16 * j + 4)) number f in
-          absurd (h (word ∙ rw (s, t)))
-      go true e false f = refl
-      go false e y f = refl
-
--- ---- the search
 
 module _ (p : ℕ → Bool) where
   pub first-start : (n : ℕ) → firstOf p 0 n ≡ firstOf p 0 (n - 0)

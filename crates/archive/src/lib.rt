@@ -6,6 +6,7 @@ ghost use Rattle.archive.specs.Answers.{noEntry, entryAt, goodFields, co
 mod numbers;
 mod search;
 mod soundness;
+mod unique;
 
 pub use numbers::Entry;
 pub use numbers::Header;

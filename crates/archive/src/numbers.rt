@@ -1,5 +1,5 @@
 // The numbers of a header and of an entry.
-ghost use Prim.Native.Nat.{_+_, _*_, _≤_, _<_};
+ghost use Prim.Native.Nat.{_+_, _*_, _≤_};
 ghost use Rattle.byte_rows.specs.Numbers.{at4};
 ghost use Rattle.archive.specs.Sound.{headerOf, entryOf};
 ghost use lib.ListN.{length};
@@ -33,16 +33,6 @@ pub(crate) fn read4(a: &[u8], at: usize) -> u32
     ensures { λ r. ⌜ r ≡ at4 (now (a .entry)) at ⌝ }
 {
     joined(a[at], a[at + 1], a[at + 2], a[at + 3])
-}
-
-// Two numbers that follow each other as one word, so that one comparison serves for both.
-pub(crate) fn read8(a: &[u8], at: usize) -> u64
-    requires { ⌜ at + 8 ≤ length (now a) ⌝ }
-    ensures { λ r. ⌜ (r ≡ at4 (now (a .entry)) at + 4294967296 * at4 (now (a .entry)) (at + 4)) × (at4 (now (a .entry)) at < 4294967296) ⌝ }
-{
-    let low = read4(a, at);
-    let high = read4(a, at + 4);
-    low as u64 + 4294967296 * (high as u64)
 }
 
 pub(crate) fn read_header(a: &[u8]) -> Header

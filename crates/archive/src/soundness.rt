@@ -1,14 +1,16 @@
 // Whether bytes are a sound archive: the header, then every entry with its picture's unshown lines and its pair.
-ghost use Prim.Native.Nat.{_+_, _*_, _<_, _≤_};
+ghost use Prim.Native.Nat.{ℕ, _+_, _*_, _<_, _≤_};
 ghost use Rattle.facts.specs.Tests.{every};
-ghost use Rattle.archive.specs.Sound.{countOf, goodBench, goodShown, headerGood, headerSound, entryGood, isZero, entrySound};
+ghost use Rattle.archive.specs.Format.{picturePlace};
+ghost use Rattle.archive.specs.Sound.{countOf, entryOf, goodBench, goodShown, headerGood, headerSound, entryGood, isZero, restZero, entrySound};
 ghost use lib.ListN.{length};
+ghost use mathlib.Core.Bool.{_&&_};
 ghost use mathlib.Core.Path.{_≡_};
 use crate::numbers::Entry;
 use crate::numbers::Header;
 use crate::numbers::read_entry;
 use crate::numbers::read_header;
-use crate::search::is_new;
+use crate::unique::all_fresh;
 
 pub(crate) fn good_bench(n: u32) -> bool
     ensures { λ r. ⌜ r ≡ goodBench n ⌝ }
@@ -78,20 +80,30 @@ fn all_zero(a: &[u8], from: usize, n: usize) -> bool
     seen == 0
 }
 
-// Entry k of n, in an archive whose header is sound.
-fn entry_sound(a: &[u8], n: usize, k: usize) -> bool
+// The fields of entry k of n, and the unshown lines of its picture, in an archive whose header is sound.
+fn row_sound(a: &[u8], n: usize, k: usize) -> bool
     requires { ⌜ (n ≡ countOf (now a)) × (n ≤ 1000) × (k < n) × (length (now a) ≡ 20 + 23056 * n) ⌝ }
-    ensures { λ r. ⌜ r ≡ entrySound (now (a .entry)) k ⌝ }
+    ensures { λ r. ⌜ r ≡ (entryGood (entryOf (now (a .entry)) k) (picturePlace (countOf (now (a .entry))) k) && restZero (now (a .entry)) k) ⌝ }
 {
     let e = read_entry(a, k);
     if !entry_good(e, 20 + 16 * n + 23040 * k) {
         return false;
     }
     let used = e.shown as usize * 90;
-    if !all_zero(a, e.offset as usize + used, 23040 - used) {
-        return false;
+    all_zero(a, e.offset as usize + used, 23040 - used)
+}
+
+// The same of every entry.
+fn rows_sound(a: &[u8], n: usize) -> bool
+    requires { ⌜ (n ≡ countOf (now a)) × (n ≤ 1000) × (length (now a) ≡ 20 + 23056 * n) ⌝ }
+    ensures { λ r. ⌜ r ≡ every (λ (k : ℕ). entryGood (entryOf (now (a .entry)) k) (picturePlace (countOf (now (a .entry))) k) && restZero (now (a .entry)) k) 0 n ⌝ }
+{
+    for k in 0..n {
+        if !row_sound(a, n, k) {
+            return false;
+        }
     }
-    is_new(a, k, e.bench, e.number)
+    true
 }
 
 // The entries of an archive whose header is sound.
@@ -99,10 +111,8 @@ pub(crate) fn entries_sound(a: &[u8], n: usize) -> bool
     requires { ⌜ (n ≡ countOf (now a)) × (n ≤ 1000) × (length (now a) ≡ 20 + 23056 * n) ⌝ }
     ensures { λ r. ⌜ r ≡ every (entrySound (now (a .entry))) 0 n ⌝ }
 {
-    for k in 0..n {
-        if !entry_sound(a, n, k) {
-            return false;
-        }
+    if !rows_sound(a, n) {
+        return false;
     }
-    true
+    all_fresh(a, n)
 }

@@ -47,8 +47,8 @@ all-kept : (events : List Event) (alone : Bool) (first : List ℕ) (m : Machine)
 all-kept [] alone first m r h = tt
 all-kept (e ∷ es) alone first m r h =
     λ (l : Lent (r .sizes) e).
-        let q = h .1 l in
-        (kept-event alone m r e (q .0), all-kept es (undisturbed alone e) first (next m e) (fed r (length (m .picture)) e) (q .1))
+    let q = h .1 l in
+    (kept-event alone m r e (q .0), all-kept es (undisturbed alone e) first (next m e) (fed r (length (m .picture)) e) (q .1))
 
 pub steward : Steward
 steward sizes rate paging table top ram picture events e =
