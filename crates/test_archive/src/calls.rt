@@ -1,4 +1,5 @@
 // The calls. Each prints a line: what was asked for, and the answer.
+use crate::bytes::change;
 use crate::bytes::fill;
 use crate::bytes::sum;
 use crate::print;
@@ -39,11 +40,25 @@ pub(crate) fn read(a: &[u8], k: u32, picture: &mut [u8]) {
     print::entry(answer);
 }
 
-pub(crate) fn count(a: &[u8]) {
+fn counted(a: &[u8]) {
     let answer = archive::count(a);
-    print::flag(b"sound ", archive::is_sound(a));
+    print::flag(b": sound ", archive::is_sound(a));
     number(b" count ", answer.count as u64);
     print::refusal(answer.refusal);
+}
+
+pub(crate) fn count(a: &[u8]) {
+    number(b"length ", a.len() as u64);
+    counted(a);
+}
+
+// The count with some bits of one byte turned over, which then are turned back.
+pub(crate) fn count_changed(a: &mut [u8], at: usize, mask: u8) {
+    change(a, at, mask);
+    number(b"byte ", at as u64);
+    print::byte(b" ^ ", mask);
+    counted(a);
+    change(a, at, mask);
 }
 
 pub(crate) fn entry(a: &[u8], k: u32) {

@@ -3,9 +3,10 @@
 //
 // The list is groups of 16 bytes: four numbers, op a b c, each low first. Op 0 prints the 64 bytes that follow. 1 makes the archive
 // held a bytes long; 2 the room a bytes; 3 the picture a bytes, with the pattern b. 4 starts an archive in the room; 5 adds the
-// picture as the frame of bench a, number b and shown c; 6 holds what was written; 7 turns over the bits b in byte a of the archive
-// held. 8 reads entry a into the picture; 9 asks for the count, 10 for entry a, 11 for entry a as it stands, 12 where bench a and
-// number b stand, 13 whether bench a and shown b are in range; 14 prints the bytes from a up to b. Any other does nothing.
+// picture as the frame of bench a, number b and shown c; 6 holds what was written. 7 turns over the bits b in byte a of the archive
+// held; 8 asks for the count while they are turned over. 9 asks for the count, 10 for entry a, 11 for entry a as it stands, 12 where
+// bench a and number b stand; 13 reads entry a into the picture; 14 asks whether bench a and shown b are in range; 15 prints the
+// bytes from a up to b. Any other does nothing.
 mod bytes;
 mod calls;
 mod print;
@@ -61,13 +62,13 @@ fn ask(g: Group, a: &[u8], picture: &mut [u8]) {
     match op {
         0 => title(),
         3 => fill(picture, g.b as usize),
-        8 => calls::read(a, g.a, picture),
         9 => calls::count(a),
         10 => calls::entry(a, g.a),
         11 => calls::stands(a, g.a),
         12 => calls::find(a, g.a, g.b),
-        13 => calls::in_range(g.a, g.b),
-        14 => print::bytes(a, g.a as usize, g.b as usize),
+        13 => calls::read(a, g.a, picture),
+        14 => calls::in_range(g.a, g.b),
+        15 => print::bytes(a, g.a as usize, g.b as usize),
         _ => {}
     }
 }
@@ -80,6 +81,10 @@ fn serve(g: Group, last: usize, a: &mut [u8], room: &mut [u8], picture: &mut [u8
         5 => calls::add(a, g.a, g.b, g.c, picture, room),
         7 => {
             change(a, g.a as usize, (g.b % 256) as u8);
+            last
+        }
+        8 => {
+            calls::count_changed(a, g.a as usize, (g.b % 256) as u8);
             last
         }
         _ => {
@@ -102,24 +107,35 @@ fn resized(l: Lengths, op: u32, n: usize) -> Lengths {
         3 => {
             after.picture = n;
         }
-        6 => {
-            after.held = l.written;
-        }
         _ => {}
     }
+    after
+}
+
+// Holds what was written last.
+fn hold(l: Lengths, room: &[u8], held: &mut [u8]) -> Lengths {
+    byte_rows::copy(room, held, 0);
+    let mut after = l;
+    after.held = l.written;
     after
 }
 
 // One group of the list.
 fn take(l: Lengths, g: Group, held: &mut [u8], room: &mut [u8], picture: &mut [u8]) -> Lengths {
     if g.op == 6 {
-        byte_rows::copy(room, held, 0);
+        return hold(l, room, held);
     }
     let mut after = resized(l, g.op, g.a as usize);
     let h = least(after.held, held.len());
     let r = least(after.room, room.len());
     let p = least(after.picture, picture.len());
-    after.written = serve(g, l.written, &mut held[..h], &mut room[..r], &mut picture[..p]);
+    after.written = serve(
+        g,
+        l.written,
+        &mut held[..h],
+        &mut room[..r],
+        &mut picture[..p],
+    );
     after
 }
 
@@ -143,8 +159,8 @@ fn play(held: &mut [u8], room: &mut [u8], picture: &mut [u8]) {
 }
 
 fn main() {
-    let mut held = [0u8; 120000];
-    let mut room = [0u8; 120000];
+    let mut held = [0u8; 400000];
+    let mut room = [0u8; 400000];
     let mut picture = [0u8; 23050];
     play(&mut held, &mut room, &mut picture);
 }

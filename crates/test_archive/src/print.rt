@@ -1,4 +1,6 @@
 // Prints texts, numbers and answers to standard output: bytes in hex, all else in decimal.
+ghost use Prim.Native.Nat.{_≤_};
+ghost use lib.ListN.{length};
 use crate::bytes::least;
 use crate::bytes::sum;
 use archive::Entry;
@@ -16,8 +18,8 @@ pub(crate) fn number(label: &[u8], n: u64) {
     io::print_decimal(STDOUT_FILENO, n);
 }
 
-fn byte(n: u8) {
-    text(b" ");
+pub(crate) fn byte(label: &[u8], n: u8) {
+    text(label);
     io::print_hex(STDOUT_FILENO, n as u64, 2);
 }
 
@@ -59,11 +61,20 @@ pub(crate) fn written(w: Written, room: &[u8]) {
     refusal(w.refusal);
 }
 
+fn row(a: &[u8], from: usize, end: usize)
+    requires { ⌜ end ≤ length (now a) ⌝ }
+{
+    for i in from..end {
+        byte(b" ", a[i]);
+    }
+}
+
 // The bytes from one index up to another, or the last.
 pub(crate) fn bytes(a: &[u8], from: usize, end: usize) {
     let n = least(end, a.len());
-    for i in from..n {
-        byte(a[i]);
-    }
+    number(b"bytes ", from as u64);
+    number(b" to ", n as u64);
+    text(b":");
+    row(a, from, n);
     text(b"\n");
 }

@@ -1,21 +1,20 @@
--- `bytes` is safe and ends: the loop counts to an index that is no more than the length.
-use Prim.Native.Nat.{_≤_, _-_}
-use lib.ListN.{length}
+-- `row` is safe and ends: the loop counts to `end`, which is no more than the length.
+use Prim.Native.Nat.{_-_}
 use borrow.Author.Needs.{needs}
-use Rattle.test_archive.proofs.print.bytes.Statement.{statement}
-use Rattle.test_archive.proofs.print.bytes.Tie as tie
+use Rattle.test_archive.proofs.print.row.Statement.{statement}
+use Rattle.test_archive.proofs.print.row.Tie as tie
 
 abbrev Inv-loop : tie.InvT-loop
-Inv-loop a from end n i₀ t6 i = n ≤ length a
+Inv-loop a from end i₀ t5 i = Unit {0}
 
 abbrev μ-loop : tie.MeasureT-loop
-μ-loop a from end n i₀ t6 i = n - i
-
-least-requires : tie.Need-least-requires Inv-loop μ-loop
-least-requires c κs = search needs
+μ-loop a from end i₀ t5 i = end - i
 
 loop-holds : tie.Need-loop-holds Inv-loop μ-loop
 loop-holds c = search needs
+
+slice-aggregate-byte : tie.Need-slice-aggregate-byte Inv-loop μ-loop
+slice-aggregate-byte c = search needs
 
 shared-slice-read-byte : tie.Need-shared-slice-read-byte Inv-loop μ-loop
 shared-slice-read-byte c = search needs
@@ -32,28 +31,20 @@ loop-less c = search needs
 loop-again : tie.Need-loop-again Inv-loop μ-loop
 loop-again c = search needs
 
-slice-aggregate-text : tie.Need-slice-aggregate-text Inv-loop μ-loop
-slice-aggregate-text c = search needs
-
-text-requires : tie.Need-text-requires Inv-loop μ-loop
-text-requires c κs = search needs
-
 returns : tie.Need-returns Inv-loop μ-loop
 returns c = search needs
 
-pub bytes-spec : {M : Type 1} → statement M
-bytes-spec =
+pub row-spec : {M : Type 1} → statement M
+row-spec =
     tie.close
     (tie.spec
     Inv-loop
     μ-loop
-    least-requires
     loop-holds
+    slice-aggregate-byte
     shared-slice-read-byte
     byte-requires
     add-i
     loop-less
     loop-again
-    slice-aggregate-text
-    text-requires
     returns)
