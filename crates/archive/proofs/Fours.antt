@@ -9,30 +9,10 @@ use mathlib.Core.List.{List}
 use mathlib.Core.Bool.{Bool, true, false, not, _&&_, _||_, and-false, and-true, and-assoc, and-self}
 use borrow.Author.Tests.{not-true, not-false}
 use Rattle.facts.specs.Tests.{every}
-use Rattle.facts.proofs.Tests.{every-add}
+use Rattle.facts.proofs.Bools.{not-or}
+use Rattle.facts.proofs.Tests.{every-add, every-both, below-next}
 use Rattle.archive.specs.declared.numbers.Entry.{Entry}
 use Rattle.archive.specs.Sound.{entryOf, frameAt, hasPair, isNew, fresh}
-
--- ---- laws of Bools and of `every`
-
-not-or : (a b : Bool) → not (a || b) ≡ (not a && not b)
-not-or true b = refl
-not-or false b = refl
-
-and-swap : (a b c d : Bool) → (a && b && (c && d)) ≡ (a && c && (b && d))
-and-swap true true c d = refl
-and-swap true false c d = rw and-false
-and-swap false b c d = refl
-
--- a test of two things is two tests
-pub every-both : (p q : ℕ → Bool) (from n : ℕ) → every (λ (i : ℕ). p i && q i) from n ≡ (every p from n && every q from n)
-unfolding every
-every-both p q from zero = refl
-every-both p q from (suc n) = rw (every-both p q (suc from) n) (and-swap (p from) (q from) (every p (suc from) n) (every q (suc from) n))
-
-every-next : (p : ℕ → Bool) (n : ℕ) → every p 0 (n + 1) ≡ (every p 0 n && p n)
-unfolding every
-every-next p n = every-add p 0 n 1 ∙ rw (zero-add, and-true)
 
 -- ---- one pass for four tests, of which none is to hold
 
@@ -43,7 +23,7 @@ module _ (t u v w : ℕ → Bool) where
   pub four-turn : (j : ℕ) (seen x : Bool) → every (noneOf t u v w) 0 j ≡ not seen → x ≡ (t j || u j || v j || w j)
       → every (noneOf t u v w) 0 (j + 1) ≡ not (seen || x)
   unfolding noneOf
-  four-turn j seen x h is = every-next (noneOf t u v w) j ∙ rw (h, is, not-or, not-or, not-or, not-or)
+  four-turn j seen x h is = below-next (noneOf t u v w) j ∙ rw (h, is, not-or, not-or, not-or, not-or)
 
   pub four-end : (n : ℕ)
       → every (noneOf t u v w) 0 n
@@ -72,7 +52,7 @@ fresh-one a k e x is h = rw (fresh-is a k e is) (h ∙ rw (and-self, and-self, a
 module _ (a : List ℕ) (e : Entry) where
   new-one : (k : ℕ) → new a e (k + 1) ≡ (new a e k && not (has a e k))
   unfolding isNew
-  new-one k = every-next (λ (j : ℕ). not (has a e j)) k
+  new-one k = below-next (λ (j : ℕ). not (has a e j)) k
 
   new-two : (k : ℕ) → new a e (k + 2) ≡ (new a e k && not (has a e k) && not (has a e (k + 1)))
   new-two k = let z : k + 2 ≡ k + 1 + 1 = omega arith in rw (z, new-one (k + 1), new-one k)

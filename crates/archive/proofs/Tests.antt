@@ -12,7 +12,7 @@ use Rattle.facts.proofs.Bools.{both}
 use Rattle.archive.specs.declared.numbers.Entry.{Entry}
 use Rattle.archive.specs.Format.{picturePlace}
 use Rattle.archive.specs.Sound.{headerSound, sound, entryOf, entryGood, entrySound, goodBench, goodShown, restZero, countOf, isZero, fresh, frameAt}
-use Rattle.archive.proofs.Fours.{every-both}
+use Rattle.facts.proofs.Tests.{every-both}
 use Rattle.archive.proofs.Read.{HeaderIs, header-is}
 use Rattle.archive.proofs.Written.{shown-most}
 

@@ -3,7 +3,7 @@
 use Prim.Native.Nat.{ℕ, _*_, _≤_, _<_}
 use native.Mathlib.Omega.{arith}
 use mathlib.Core.Path.{_≡_, refl, sym}
-use mathlib.Core.Bool.{Bool, true, false, cond, _&&_, _||_, true≢false}
+use mathlib.Core.Bool.{Bool, true, false, cond, not, _&&_, _||_, true≢false, and-false}
 use mathlib.Core.Logic.{_⊎_, inl, inr}
 use mir.Val.{boolByte}
 
@@ -56,3 +56,13 @@ boolByte-le b = omega (arith, boolByte-lt b)
 pub weighed : (b : Bool) (n : ℕ) → boolByte b * n ≡ cond b n 0
 weighed true n = omega arith
 weighed false n = omega arith
+
+-- neither of two
+pub not-or : (a b : Bool) → not (a || b) ≡ (not a && not b)
+not-or true b = refl
+not-or false b = refl
+
+pub and-swap : (a b c d : Bool) → (a && b && (c && d)) ≡ (a && c && (b && d))
+and-swap true true c d = refl
+and-swap true false c d = rw and-false
+and-swap false b c d = refl

@@ -4,11 +4,11 @@ use Prim.Native.Nat.{ℕ, zero, suc, _+_, _≤_, _<_}
 use native.Mathlib.Nat.{add-suc, suc-add, add-zero, zero-add, le-of-suc-le-suc, not-suc-le-zero}
 use native.Mathlib.Omega.{arith}
 use mathlib.Core.Path.{_≡_, refl, sym, _∙_, ap, ap₂}
-use mathlib.Core.Bool.{Bool, true, false, _&&_, and-assoc}
+use mathlib.Core.Bool.{Bool, true, false, _&&_, and-assoc, and-true}
 use borrow.Author.Tests.{eqb-true, eqb-false}
 use lib.Dec.{eqb}
 use Rattle.facts.specs.Tests.{any, every}
-use Rattle.facts.proofs.Bools.{both, or-first, or-second}
+use Rattle.facts.proofs.Bools.{both, or-first, or-second, and-swap}
 
 -- it holds of none: the answer is false
 pub any-none : (p : ℕ → Bool) (from n : ℕ) → ((i : ℕ) → from ≤ i → i < from + n → p i ≡ false) → any p from n ≡ false
@@ -78,7 +78,17 @@ every-add p from (suc m) n =
     ∙ sym (and-assoc (p from) (every p (suc from) m) (every p (suc from + m) n))
     ∙ ap (λ (k : ℕ). p from && every p (suc from) m && every p k n) (suc-add from m ∙ sym (add-suc from m)))
 
+-- a test of two things is two tests
+pub every-both : (p q : ℕ → Bool) (from n : ℕ) → every (λ (i : ℕ). p i && q i) from n ≡ (every p from n && every q from n)
+unfolding every
+every-both p q from zero = refl
+every-both p q from (suc n) = rw (every-both p q (suc from) n) (and-swap (p from) (q from) (every p (suc from) n) (every q (suc from) n))
+
 -- ---- of all numbers below n
+
+pub below-next : (p : ℕ → Bool) (n : ℕ) → every p 0 (n + 1) ≡ (every p 0 n && p n)
+unfolding every
+below-next p n = every-add p 0 n 1 ∙ rw (zero-add, and-true)
 
 module _ (p : ℕ → Bool) (n : ℕ) where
   pub below-at : (k : ℕ) → every p 0 n ≡ true → k < n → p k ≡ true
