@@ -10,12 +10,12 @@ fn main() {
         return;
     }
     let folder = library_folder();
-    let archive = folder.join("libjoyce.a");
-    println!("cargo:rerun-if-changed={}", archive.display());
-    if !archive.is_file() {
+    let library = folder.join("libjoyce.a");
+    println!("cargo:rerun-if-changed={}", library.display());
+    if !library.is_file() {
         println!(
             "cargo:warning={} is missing; set JOYCE_LIB to its folder or use --features standin",
-            archive.display()
+            library.display()
         );
     }
     println!("cargo:rustc-link-search=native={}", folder.display());

@@ -1,5 +1,5 @@
 /* The Joyce main board: paging, lent RAM, ports, timer, beam, interrupt lines, keyboard table
- * and picture. C11 and C++.
+ * and picture; and archives that keep pictures. C11 and C++.
  *
  * Every input is taken: any bytes in a record, any length, any number. What a function does not
  * accept it refuses with a number, and then it changes nothing: not the record, not lent memory
@@ -177,11 +177,11 @@ uint64_t joyce_reach(uint8_t internal, uint8_t total, uint8_t f0, uint8_t f1, ui
  *   entries   n times: bench, number, shown lines, offset of the picture
  *   pictures  n times 23,040 bytes in entry order, unshown lines zero
  *
- * Every function looks the whole archive over first and refuses with 10 what is not sound: a form,
- * count, offset or length other than these, or a length other than archive_len, a field out of
- * range, a bench and number twice, an unshown line that is not zero. So two sound archives of the
- * same frames are the same bytes. A call that is refused writes nothing, and no call writes behind
- * what it says. */
+ * Every function that is lent an archive looks the whole of it over, after 2, and refuses with 10
+ * what is not sound: a form, count, offset or length other than these, or a length other than
+ * archive_len, a field out of range, a bench and number twice, an unshown line that is not zero. So
+ * two sound archives of the same frames are the same bytes. A call that is refused writes nothing,
+ * and no call writes behind what it says. */
 #define JOYCE_ARCHIVE_MAX 1000u                                     /* frames in the largest archive */
 #define JOYCE_ARCHIVE_LENGTH(n) ((size_t)20u + (size_t)23056u * (n)) /* bytes in an archive of n */
 
@@ -217,7 +217,7 @@ static inline int joyce_int(uint64_t reply) { return (int)(reply >> 16 & 1); }
 static inline int joyce_nmi(uint64_t reply) { return (int)(reply >> 17 & 1); }
 static inline int joyce_forwarded(uint64_t reply) { return (int)(reply >> 18 & 1); }   /* to the host (document 01: passed on) */
 static inline int joyce_floating(uint64_t reply) { return (int)(reply >> 19 & 1); }    /* the video is not driven */
-static inline int joyce_found(uint64_t reply) { return (int)(reply >> 20 & 1); }       /* a line or position was found */
+static inline int joyce_found(uint64_t reply) { return (int)(reply >> 20 & 1); }       /* a line, position or entry was found */
 static inline uint8_t joyce_line(uint64_t reply) { return (uint8_t)reply; }
 static inline uint16_t joyce_pixel(uint64_t reply) { return (uint16_t)(reply >> 40); }
 static inline uint8_t joyce_refusal(uint64_t reply) { return (uint8_t)(reply >> 32); }

@@ -7,7 +7,7 @@ use mathlib.Core.List.{[], _∷_, append-nil}
 use Rattle.facts.specs.Tests.{every}
 use Rattle.byte_rows.specs.Numbers.{number4, at4}
 use Rattle.byte_rows.specs.Rows.{rows}
-use Rattle.archive.specs.Format.{header, entry, picturePlace, written, archiveOf}
+use Rattle.archive.specs.Format.{header, entry, pictureOffset, written, archiveOf}
 use Rattle.archive.specs.Sound.{goodBench, goodShown, headerGood, headerSound, headerOf, countOf, sound}
 
 -- "all numbers four bytes, low first"
@@ -34,8 +34,8 @@ unfolding header number4
 full-header = refl
 
 -- bench 12, number 345, 200 lines, the second picture of three: at 20 + 48 + 23,040
-pub an-entry : entry 12 345 200 (picturePlace 3 1) ≡ 12 ∷ 0 ∷ 0 ∷ 0 ∷ 0x59 ∷ 1 ∷ 0 ∷ 0 ∷ 200 ∷ 0 ∷ 0 ∷ 0 ∷ 0x44 ∷ 0x5A ∷ 0 ∷ 0 ∷ []
-unfolding entry picturePlace number4
+pub an-entry : entry 12 345 200 (pictureOffset 3 1) ≡ 12 ∷ 0 ∷ 0 ∷ 0 ∷ 0x59 ∷ 1 ∷ 0 ∷ 0 ∷ 200 ∷ 0 ∷ 0 ∷ 0 ∷ 0x44 ∷ 0x5A ∷ 0 ∷ 0 ∷ []
+unfolding entry pictureOffset number4
 an-entry = refl
 
 -- "bench (1 to 65,535)", "shown lines (200 or 256)"

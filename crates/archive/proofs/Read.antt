@@ -1,4 +1,4 @@
--- An archive that reads is the only archive of its list.
+-- A sound archive is the only one of its list.
 use Prim.Native.Nat.{ℕ, _+_, _-_, _*_, _≤_, _<_}
 use native.Mathlib.Omega.{arith}
 use mathlib.Core.Path.{_≡_, refl, sym, ap, _∙_}
@@ -12,7 +12,7 @@ use Rattle.facts.specs.Tests.{every}
 use Rattle.facts.proofs.Tests.{below-at, below-all}
 use Rattle.facts.proofs.Bools.{both}
 use Rattle.byte_rows.proofs.Rows.{three-parts, rows-take, zeros-behind}
-use Rattle.archive.specs.Format.{shownOf, header, entry, entryPlace, picturePlace, entryRow, pictureRow, written, frameIn, archiveOf}
+use Rattle.archive.specs.Format.{shownOf, header, entry, entryOffset, pictureOffset, entryRow, pictureRow, written, frameIn, archiveOf}
 use Rattle.archive.specs.Sound.{countOf, benchAt, numberAt, shownAt, offsetAt, linesAt, frameAt, framesOf, fresh, goodShown, goodBench, headerGood, headerOf, entryGood, entryOf, headerSound, isZero, restZero, entrySound, sound, frameGood, frameStorable, storable}
 use Rattle.byte_rows.specs.Numbers.{number4, at4}
 use Rattle.byte_rows.proofs.Numbers.{number-more, at-small}
@@ -52,18 +52,18 @@ size-good s m h e = go (eqb s 200) refl h
 pub record EntryIs (b : List ℕ) (k : ℕ) : Type 0 where
   pub bench : goodBench (benchAt b k) ≡ true
   pub shown : goodShown (shownAt b k) ≡ true
-  pub offset : offsetAt b k ≡ picturePlace (countOf b) k
+  pub offset : offsetAt b k ≡ pictureOffset (countOf b) k
   pub tail : restZero b k ≡ true
   pub new : fresh (frameAt b) k ≡ true
 
 pub entry-is : (b : List ℕ) (k : ℕ) → entrySound b k ≡ true → EntryIs b k
 unfolding entrySound entryGood entryOf
 entry-is b k h =
-    let p = both (entryGood (entryOf b k) (picturePlace (countOf b) k) && restZero b k) (fresh (frameAt b) k) h in
-    let q = both (entryGood (entryOf b k) (picturePlace (countOf b) k)) (restZero b k) (p .0) in
-    let r = both (goodBench (benchAt b k) && goodShown (shownAt b k)) (eqb (offsetAt b k) (picturePlace (countOf b) k)) (q .0) in
+    let p = both (entryGood (entryOf b k) (pictureOffset (countOf b) k) && restZero b k) (fresh (frameAt b) k) h in
+    let q = both (entryGood (entryOf b k) (pictureOffset (countOf b) k)) (restZero b k) (p .0) in
+    let r = both (goodBench (benchAt b k) && goodShown (shownAt b k)) (eqb (offsetAt b k) (pictureOffset (countOf b) k)) (q .0) in
     let s = both (goodBench (benchAt b k)) (goodShown (shownAt b k)) (r .0) in
-    record { bench = s .0; shown = s .1; offset = eqb-true (offsetAt b k) (picturePlace (countOf b) k) (r .1); tail = q .1; new = p .1 }
+    record { bench = s .0; shown = s .1; offset = eqb-true (offsetAt b k) (pictureOffset (countOf b) k) (r .1); tail = q .1; new = p .1 }
 
 pub record HeaderIs (b : List ℕ) : Type 0 where
   pub form : at4 b 0 ≡ 1
@@ -76,13 +76,12 @@ pub record HeaderIs (b : List ℕ) : Type 0 where
 pub header-is : (b : List ℕ) → headerSound b ≡ true → HeaderIs b
 unfolding headerSound headerGood headerOf countOf
 header-is b h =
-    let p0 = both (leb 20 (length b)) (headerGood (headerOf b) (length b)) h in
     let t2 = eqb (at4 b 0) 1 in
     let t3 = t2 && leb (countOf b) 1000 in
     let t4 = t3 && eqb (at4 b 8) 20 in
     let t5 = t4 && eqb (at4 b 12) (20 + 16 * countOf b) in
     let t6 = t5 && eqb (at4 b 16) (20 + 23056 * countOf b) in
-    let p6 = both t6 (eqb (length b) (20 + 23056 * countOf b)) (p0 .1) in
+    let p6 = both t6 (eqb (length b) (20 + 23056 * countOf b)) h in
     let p5 = both t5 (eqb (at4 b 16) (20 + 23056 * countOf b)) (p6 .0) in
     let p4 = both t4 (eqb (at4 b 12) (20 + 16 * countOf b)) (p5 .0) in
     let p3 = both t3 (eqb (at4 b 8) 20) (p4 .0) in
@@ -109,8 +108,8 @@ sound-is b h =
 -- ---- the frames of a sound archive
 
 module _ (b : List ℕ) (is : SoundIs b) where
-  place-in : (k : ℕ) → k < countOf b → picturePlace (countOf b) k + 23040 ≤ length b
-  unfolding picturePlace
+  place-in : (k : ℕ) → k < countOf b → pictureOffset (countOf b) k + 23040 ≤ length b
+  unfolding pictureOffset
   place-in k l = omega (arith, is .head .size)
 
   pub lines-length : (k : ℕ) → k < countOf b → length (linesAt b k) ≡ shownAt b k * 90
@@ -130,18 +129,18 @@ module _ (b : List ℕ) (is : SoundIs b) where
       (below-at (isZero b (offsetAt b k + shownAt b k * 90)) (23040 - shownAt b k * 90) i (is .each k l .tail) h)
 
   -- picture k is the lines and zeros
-  picture-is : (k : ℕ) → k < countOf b → pictureRow (frameAt b) k ≡ take 23040 (drop (picturePlace (countOf b) k) b)
+  picture-is : (k : ℕ) → k < countOf b → pictureRow (frameAt b) k ≡ take 23040 (drop (pictureOffset (countOf b) k) b)
   unfolding pictureRow frameAt linesAt
   picture-is k l =
       let n : shownAt b k * 90 ≤ 23040 = omega (arith, shown-most (shownAt b k) (is .each k l .shown)) in
       rw (lines-length k l, ← is .each k l .offset) (zeros-behind b (offsetAt b k) (shownAt b k * 90) 23040 n (rw (is .each k l .offset) (place-in k l)) (blank-in k l))
 
   entry-row-is : ((j : ℕ) → getD b j 0 < 256) → (k : ℕ) → k < countOf b → entryRow (frameAt b) (countOf b) k ≡ take 16 (drop (20 + 16 * k) b)
-  unfolding entryRow frameAt entryPlace benchAt numberAt shownAt offsetAt
+  unfolding entryRow frameAt entryOffset benchAt numberAt shownAt offsetAt
   entry-row-is small k l = rw (shown-is k l, ← is .each k l .offset) (entry-bytes b small (20 + 16 * k) (omega (arith, is .head .size)))
 
   pub picture-place : (k : ℕ) → k < countOf b → pictureRow (frameAt b) k ≡ take 23040 (drop (20 + 16 * countOf b + 23040 * k) b)
-  unfolding picturePlace
+  unfolding pictureOffset
   picture-place k l = picture-is k l
 
   header-of : ((j : ℕ) → getD b j 0 < 256) → header (countOf b) ≡ take 20 b
@@ -157,7 +156,7 @@ module _ (b : List ℕ) (is : SoundIs b) where
       rw (header-of small, rows-take (entryRow (frameAt b) (countOf b)) 16 b 20 (countOf b) (entry-row-is small), rows-take (pictureRow (frameAt b)) 23040 b (20 + 16 * countOf b) (countOf b) picture-place)
       (three-parts b 20 (16 * countOf b) (23040 * countOf b) (omega (arith, is .head .size)))
 
-  -- "an archive that reads is the only archive of its list"
+  -- a sound archive is the only one of its list
   pub frames-count : length (framesOf b) ≡ countOf b
   unfolding framesOf
   frames-count = listing-length (frameAt b) (countOf b)
@@ -174,7 +173,7 @@ module _ (b : List ℕ) (is : SoundIs b) where
   frame-good : ((j : ℕ) → getD b j 0 < 256) → (k : ℕ) → k < countOf b → frameGood (frameAt b k) ≡ true
   unfolding frameGood frameAt numberAt
   frame-good small k l =
-      rw (is .each k l .bench, lt-ltb (at4 b (entryPlace k + 4)) 4294967296 (at-small b (entryPlace k + 4) small), size-good (shownAt b k) (length (linesAt b k)) (is .each k l .shown) (lines-length k l))
+      rw (is .each k l .bench, lt-ltb (at4 b (entryOffset k + 4)) 4294967296 (at-small b (entryOffset k + 4) small), size-good (shownAt b k) (length (linesAt b k)) (is .each k l .shown) (lines-length k l))
 
   pub frames-storable : ((j : ℕ) → getD b j 0 < 256) → storable (framesOf b) ≡ true
   unfolding storable frameStorable

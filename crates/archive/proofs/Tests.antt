@@ -1,17 +1,19 @@
 -- What the tests of the code say of the tests of the rules.
 -- Assumes nothing.
 use Prim.Native.Nat.{ℕ, _+_, _-_, _*_, _≤_, _<_}
+use native.Mathlib.Omega.{arith}
 use mathlib.Core.Path.{_≡_, sym, _∙_}
-use mathlib.Core.Bool.{Bool, true, false, not, _&&_}
+use mathlib.Core.Bool.{Bool, true, false, not, _&&_, and-false}
 use mathlib.Core.List.{List}
-use borrow.Author.Tests.{eqb-true, not-true, not-false}
+use borrow.Author.Tests.{ne-eqb, eqb-true, not-true, not-false}
 use lib.Dec.{eqb}
+use lib.ListN.{length}
 use Rattle.facts.specs.Tests.{every}
 use Rattle.facts.proofs.Tests.{below-fails, below-more}
 use Rattle.facts.proofs.Bools.{both}
 use Rattle.archive.specs.declared.numbers.Entry.{Entry}
-use Rattle.archive.specs.Format.{picturePlace}
-use Rattle.archive.specs.Sound.{headerSound, sound, entryOf, entryGood, entrySound, goodBench, goodShown, restZero, countOf, isZero, fresh, frameAt}
+use Rattle.archive.specs.Format.{pictureOffset}
+use Rattle.archive.specs.Sound.{headerGood, headerOf, headerSound, sound, entryOf, entryGood, entrySound, goodBench, goodShown, restZero, countOf, isZero, fresh, frameAt}
 use Rattle.facts.proofs.Tests.{every-both}
 use Rattle.archive.proofs.Read.{HeaderIs, header-is}
 use Rattle.archive.proofs.Written.{shown-most}
@@ -26,11 +28,11 @@ module _ (p : ℕ → Bool) (i : ℕ) (r : Bool) (is : r ≡ p i) where
 
 -- the fields and the picture of an entry of an archive whose header is sound
 abbrev pub rowSound : List ℕ → ℕ → Bool
-rowSound a k = entryGood (entryOf a k) (picturePlace (countOf a) k) && restZero a k
+rowSound a k = entryGood (entryOf a k) (pictureOffset (countOf a) k) && restZero a k
 
 module _ (a : List ℕ) (k n : ℕ) (e : Entry) (g : Bool) (at : n ≡ countOf a) (is : e ≡ entryOf a k) (good : g ≡ entryGood e (20 + 16 * n + 23040 * k)) where
   pub row-fails : not g ≡ true → false ≡ rowSound a k
-  unfolding picturePlace
+  unfolding pictureOffset
   row-fails h = rw (← is, ← at, ← good, not-true g h)
 
   pub row-known : not g ≡ false → (e .shown ≤ 256) × (e .offset ≡ 20 + 16 * n + 23040 * k)
@@ -44,7 +46,7 @@ module _ (a : List ℕ) (k n : ℕ) (e : Entry) (g : Bool) (at : n ≡ countOf a
   rest-is = rw is
 
   pub row-decides : not g ≡ false → (t : Bool) → t ≡ every (isZero a (e .offset + e .shown * 90)) 0 (23040 - e .shown * 90) → t ≡ rowSound a k
-  unfolding picturePlace
+  unfolding pictureOffset
   row-decides h t z = rw (← is, ← at, ← good, not-false g h) (z ∙ rest-is)
 
 -- the entries, once by their fields and pictures and once by their pairs
@@ -58,6 +60,11 @@ module _ (a : List ℕ) (n : ℕ) (g : Bool) (is : g ≡ every (rowSound a) 0 n)
 
   pub pairs-decide : not g ≡ false → (x : Bool) → x ≡ every (fresh (frameAt a)) 0 n → x ≡ every (entrySound a) 0 n
   pairs-decide h x e = e ∙ sym (entries-are ∙ rw (not-false g h))
+
+-- fewer bytes than a header has
+pub too-short : (a : List ℕ) → length a < 20 → false ≡ headerSound a
+unfolding headerSound headerGood
+too-short a h = rw (ne-eqb (length a) (20 + 23056 * headerOf a .count) (λ e. omega arith), and-false)
 
 -- an archive by its header and its entries
 module _ (a : List ℕ) (g : Bool) (is : g ≡ headerSound a) where

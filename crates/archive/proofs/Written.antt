@@ -14,7 +14,7 @@ use Rattle.facts.proofs.Tests.{below-at, below-all}
 use Rattle.facts.proofs.Bools.{both}
 use Rattle.byte_rows.specs.Rows.{rows, zeros}
 use Rattle.byte_rows.proofs.Rows.{drop-past, rows-length, rows-at, zeros-length, zeros-at}
-use Rattle.archive.specs.Format.{Frame, shownOf, header, entry, entryPlace, picturePlace, entryRow, pictureRow, written, frameIn, listing, archiveOf}
+use Rattle.archive.specs.Format.{Frame, shownOf, header, entry, entryOffset, pictureOffset, entryRow, pictureRow, written, frameIn, listing, archiveOf}
 use Rattle.archive.specs.Sound.{countOf, benchAt, numberAt, shownAt, offsetAt, linesAt, frameAt, framesOf, fresh, goodShown, goodBench, headerGood, headerOf, entryGood, entryOf, headerSound, isZero, restZero, entrySound, sound, frameGood, frameStorable, storable}
 use Rattle.byte_rows.specs.Numbers.{number4, at4}
 use Rattle.archive.proofs.Listing.{listing-same, listing-back, fresh-same}
@@ -79,7 +79,7 @@ entry-length a b c d = refl
 module _ (f : ℕ → Frame) (n : ℕ) (few : n ≤ 1000) (good : (k : ℕ) → k < n → Good (f k)) where
   row-entry : (k : ℕ) → k < n → length (entryRow f n k) ≡ 16
   unfolding entryRow
-  row-entry k l = entry-length (f k .bench) (f k .number) (shownOf (f k)) (picturePlace n k)
+  row-entry k l = entry-length (f k .bench) (f k .number) (shownOf (f k)) (pictureOffset n k)
 
   row-picture : (k : ℕ) → k < n → length (pictureRow f k) ≡ 23040
   unfolding pictureRow
@@ -97,35 +97,35 @@ module _ (f : ℕ → Frame) (n : ℕ) (few : n ≤ 1000) (good : (k : ℕ) → 
   archive-numbers = rw append-assoc (header-reads n (rows (entryRow f n) n ++ rows (pictureRow f) n) few)
 
   -- what stands from an entry on, and from a picture on
-  archive-entry : (k : ℕ) → k < n → drop (entryPlace k) (written f n) ≡ entryRow f n k ++ drop (16 * k + 16) (rows (entryRow f n) n ++ rows (pictureRow f) n)
-  unfolding written entryPlace
+  archive-entry : (k : ℕ) → k < n → drop (entryOffset k) (written f n) ≡ entryRow f n k ++ drop (16 * k + 16) (rows (entryRow f n) n ++ rows (pictureRow f) n)
+  unfolding written entryOffset
   archive-entry k l =
       rw append-assoc
       (drop-past (header n) (rows (entryRow f n) n ++ rows (pictureRow f) n) 20 (16 * k) (header-length n)
       ∙ rows-at (entryRow f n) 16 n k (rows (pictureRow f) n) row-entry l)
 
-  pub archive-picture : (k : ℕ) → k < n → drop (picturePlace n k) (written f n) ≡ pictureRow f k ++ drop (23040 * k + 23040) (rows (pictureRow f) n)
-  unfolding written picturePlace
+  pub archive-picture : (k : ℕ) → k < n → drop (pictureOffset n k) (written f n) ≡ pictureRow f k ++ drop (23040 * k + 23040) (rows (pictureRow f) n)
+  unfolding written pictureOffset
   archive-picture k l =
       drop-past (header n ++ rows (entryRow f n) n) (rows (pictureRow f) n) (20 + 16 * n) (23040 * k) entries-length
       ∙ rw append-nil at (rows-at (pictureRow f) 23040 n k [] row-picture l)
 
-  place-small : (k : ℕ) → k < n → picturePlace n k < 4294967296
-  unfolding picturePlace
+  place-small : (k : ℕ) → k < n → pictureOffset n k < 4294967296
+  unfolding pictureOffset
   place-small k l = omega arith
 
   -- the numbers of an entry
   pub archive-fields : (k : ℕ) → k < n
-      → (benchAt (written f n) k ≡ f k .bench) × (numberAt (written f n) k ≡ f k .number) × (shownAt (written f n) k ≡ shownOf (f k)) × (offsetAt (written f n) k ≡ picturePlace n k)
+      → (benchAt (written f n) k ≡ f k .bench) × (numberAt (written f n) k ≡ f k .number) × (shownAt (written f n) k ≡ shownOf (f k)) × (offsetAt (written f n) k ≡ pictureOffset n k)
   unfolding benchAt numberAt shownAt offsetAt entryRow
   archive-fields k l =
       let g = good k l in
-      let place : picturePlace n k < 4294967296 = place-small k l in
-      let e = entry-reads (f k .bench) (f k .number) (shownOf (f k)) (picturePlace n k) (drop (16 * k + 16) (rows (entryRow f n) n ++ rows (pictureRow f) n))
+      let place : pictureOffset n k < 4294967296 = place-small k l in
+      let e = entry-reads (f k .bench) (f k .number) (shownOf (f k)) (pictureOffset n k) (drop (16 * k + 16) (rows (entryRow f n) n ++ rows (pictureRow f) n))
       (omega (arith, bench-most (f k .bench) (g .bench))) (g .number) (omega (arith, shown-most (shownOf (f k)) (g .shown))) place in
       let d = archive-entry k l in
-      let at : (i : ℕ) → at4 (written f n) (entryPlace k + i) ≡ at4 (entryRow f n k ++ drop (16 * k + 16) (rows (entryRow f n) n ++ rows (pictureRow f) n)) i =
-      λ i. sym (at-drop (written f n) (entryPlace k) i) ∙ ap (λ (x : List ℕ). at4 x i) d in
+      let at : (i : ℕ) → at4 (written f n) (entryOffset k + i) ≡ at4 (entryRow f n k ++ drop (16 * k + 16) (rows (entryRow f n) n ++ rows (pictureRow f) n)) i =
+      λ i. sym (at-drop (written f n) (entryOffset k) i) ∙ ap (λ (x : List ℕ). at4 x i) d in
       (rw add-zero at (at 0) ∙ e .0, at 4 ∙ e .1, at 8 ∙ e .2, at 12 ∙ e .3)
 
   pub archive-lines : (k : ℕ) → k < n → linesAt (written f n) k ≡ f k .lines
@@ -139,33 +139,33 @@ module _ (f : ℕ → Frame) (n : ℕ) (few : n ≤ 1000) (good : (k : ℕ) → 
   archive-frame k l = rw (archive-fields k l .0, archive-fields k l .1, archive-lines k l)
 
   -- its picture is zero behind the shown lines
-  archive-blank : (k i : ℕ) → k < n → i < 23040 - shownOf (f k) * 90 → getD (written f n) (picturePlace n k + shownOf (f k) * 90 + i) 0 ≡ 0
+  archive-blank : (k i : ℕ) → k < n → i < 23040 - shownOf (f k) * 90 → getD (written f n) (pictureOffset n k + shownOf (f k) * 90 + i) 0 ≡ 0
   unfolding pictureRow
   archive-blank k i l h =
       let e = good k l .size in
       let m : ℕ = 23040 - length (f k .lines) in
       let rest : List ℕ = drop (23040 * k + 23040) (rows (pictureRow f) n) in
       let p : i < length (zeros (23040 - length (f k .lines))) = rw zeros-length (omega arith) in
-      rw (add-assoc, ← getD-drop (picturePlace n k) (written f n) (shownOf (f k) * 90 + i) 0, archive-picture k l, append-assoc, ← e, getD-append-add (f k .lines) (zeros m ++ rest) i 0)
+      rw (add-assoc, ← getD-drop (pictureOffset n k) (written f n) (shownOf (f k) * 90 + i) 0, archive-picture k l, append-assoc, ← e, getD-append-add (f k .lines) (zeros m ++ rest) i 0)
       (List·getD-append (zeros m) rest 0 i p ∙ zeros-at m i)
 
-  archive-tail : (k : ℕ) → k < n → every (isZero (written f n) (picturePlace n k + shownOf (f k) * 90)) 0 (23040 - shownOf (f k) * 90) ≡ true
+  archive-tail : (k : ℕ) → k < n → every (isZero (written f n) (pictureOffset n k + shownOf (f k) * 90)) 0 (23040 - shownOf (f k) * 90) ≡ true
   unfolding isZero
-  archive-tail k l = below-all (isZero (written f n) (picturePlace n k + shownOf (f k) * 90)) (23040 - shownOf (f k) * 90) (λ i m. rw (archive-blank k i l m))
+  archive-tail k l = below-all (isZero (written f n) (pictureOffset n k + shownOf (f k) * 90)) (23040 - shownOf (f k) * 90) (λ i m. rw (archive-blank k i l m))
 
   archive-header : headerSound (written f n) ≡ true
   unfolding headerSound headerGood headerOf countOf
   archive-header =
       let e = archive-numbers in
-      rw (archive-length, e .0, e .1, e .2, e .3, e .4, le-leb 20 (20 + 23056 * n) (omega arith), le-leb n 1000 few, eq-eqb (20 + 16 * n) (20 + 16 * n) refl, eq-eqb (20 + 23056 * n) (20 + 23056 * n) refl)
+      rw (archive-length, e .0, e .1, e .2, e .3, e .4, le-leb n 1000 few, eq-eqb (20 + 16 * n) (20 + 16 * n) refl, eq-eqb (20 + 23056 * n) (20 + 23056 * n) refl)
 
   archive-entry-sound : ((k : ℕ) → k < n → fresh f k ≡ true) → (k : ℕ) → k < n → entrySound (written f n) k ≡ true
   unfolding entrySound entryGood entryOf restZero
   archive-entry-sound new k l =
       let e = archive-fields k l in
       let g = good k l in
-      let b : every (isZero (written f n) (picturePlace n k + shownOf (f k) * 90)) 0 (23040 - shownOf (f k) * 90) ≡ true = archive-tail k l in
-      rw (e .0, e .2, e .3, archive-numbers .1, g .bench, g .shown, eq-eqb (picturePlace n k) (picturePlace n k) refl, b, fresh-same (frameAt (written f n)) f n archive-frame k l, new k l)
+      let b : every (isZero (written f n) (pictureOffset n k + shownOf (f k) * 90)) 0 (23040 - shownOf (f k) * 90) ≡ true = archive-tail k l in
+      rw (e .0, e .2, e .3, archive-numbers .1, g .bench, g .shown, eq-eqb (pictureOffset n k) (pictureOffset n k) refl, b, fresh-same (frameAt (written f n)) f n archive-frame k l, new k l)
 
   pub archive-sound : ((k : ℕ) → k < n → fresh f k ≡ true) → sound (written f n) ≡ true
   unfolding sound

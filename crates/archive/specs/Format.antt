@@ -24,15 +24,15 @@ unfoldable pub entry : ℕ → ℕ → ℕ → ℕ → List ℕ
 entry bench number shown offset = number4 bench ++ number4 number ++ number4 shown ++ number4 offset
 
 -- "pictures follow in entry order": where entry k stands, and picture k of n
-unfoldable pub entryPlace : ℕ → ℕ
-entryPlace k = 20 + 16 * k
+unfoldable pub entryOffset : ℕ → ℕ
+entryOffset k = 20 + 16 * k
 
-unfoldable pub picturePlace : ℕ → ℕ → ℕ
-picturePlace n k = 20 + 16 * n + 23040 * k
+unfoldable pub pictureOffset : ℕ → ℕ → ℕ
+pictureOffset n k = 20 + 16 * n + 23040 * k
 
 -- the entry and the picture of frame k, of n frames that are given by their index; "unshown lines zero"
 unfoldable pub entryRow : (ℕ → Frame) → ℕ → ℕ → List ℕ
-entryRow f n k = entry (f k .bench) (f k .number) (shownOf (f k)) (picturePlace n k)
+entryRow f n k = entry (f k .bench) (f k .number) (shownOf (f k)) (pictureOffset n k)
 
 unfoldable pub pictureRow : (ℕ → Frame) → ℕ → List ℕ
 pictureRow f k = f k .lines ++ zeros (23040 - length (f k .lines))

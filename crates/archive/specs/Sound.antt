@@ -8,7 +8,7 @@ use Rattle.facts.specs.Tests.{every}
 use Rattle.byte_rows.specs.Numbers.{at4}
 use Rattle.archive.specs.declared.numbers.Header.{Header}
 use Rattle.archive.specs.declared.numbers.Entry.{Entry}
-use Rattle.archive.specs.Format.{Frame, entryPlace, picturePlace, frameIn, listing}
+use Rattle.archive.specs.Format.{Frame, entryOffset, pictureOffset, frameIn, listing}
 
 -- ---- reading, by offsets
 
@@ -20,16 +20,16 @@ headerOf a = record { form = at4 a 0; count = at4 a 4; entries = at4 a 8; pictur
 
 -- the numbers of entry k
 unfoldable pub benchAt : List ℕ → ℕ → ℕ
-benchAt a k = at4 a (entryPlace k)
+benchAt a k = at4 a (entryOffset k)
 
 unfoldable pub numberAt : List ℕ → ℕ → ℕ
-numberAt a k = at4 a (entryPlace k + 4)
+numberAt a k = at4 a (entryOffset k + 4)
 
 unfoldable pub shownAt : List ℕ → ℕ → ℕ
-shownAt a k = at4 a (entryPlace k + 8)
+shownAt a k = at4 a (entryOffset k + 8)
 
 unfoldable pub offsetAt : List ℕ → ℕ → ℕ
-offsetAt a k = at4 a (entryPlace k + 12)
+offsetAt a k = at4 a (entryOffset k + 12)
 
 unfoldable pub entryOf : List ℕ → ℕ → Entry
 entryOf a k = record { bench = benchAt a k; number = numberAt a k; shown = shownAt a k; offset = offsetAt a k }
@@ -71,7 +71,7 @@ headerGood h size =
     && eqb (h .end) (20 + 23056 * h .count) && eqb size (20 + 23056 * h .count)
 
 unfoldable pub headerSound : List ℕ → Bool
-headerSound a = leb 20 (length a) && headerGood (headerOf a) (length a)
+headerSound a = headerGood (headerOf a) (length a)
 
 -- "unshown lines zero": byte i from an index on is zero; the bytes behind the shown lines of picture k are
 unfoldable pub isZero : List ℕ → ℕ → ℕ → Bool
@@ -85,18 +85,21 @@ unfoldable pub entryGood : Entry → ℕ → Bool
 entryGood e offset = goodBench (e .bench) && goodShown (e .shown) && eqb (e .offset) offset
 
 unfoldable pub entrySound : List ℕ → ℕ → Bool
-entrySound a k = entryGood (entryOf a k) (picturePlace (countOf a) k) && restZero a k && fresh (frameAt a) k
+entrySound a k = entryGood (entryOf a k) (pictureOffset (countOf a) k) && restZero a k && fresh (frameAt a) k
 
 unfoldable pub sound : List ℕ → Bool
 sound a = headerSound a && every (entrySound a) 0 (countOf a)
 
 -- ---- lists of frames that can be stored
 
+-- "bench (1 to 65,535)", a number of four bytes, "shown lines (200 or 256)" of 90 bytes each; lines are bytes, as lent memory is
 unfoldable pub frameGood : Frame → Bool
 frameGood f = goodBench (f .bench) && ltb (f .number) 4294967296 && (eqb (length (f .lines)) 18000 || eqb (length (f .lines)) 23040)
 
+-- "A bench and frame number pair stands once"
 unfoldable pub frameStorable : (ℕ → Frame) → ℕ → Bool
 frameStorable f k = frameGood (f k) && fresh f k
 
+-- "count n (0 to 1,000)"
 unfoldable pub storable : List Frame → Bool
 storable fs = leb (length fs) 1000 && every (frameStorable (frameIn fs)) 0 (length fs)

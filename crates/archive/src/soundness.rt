@@ -1,7 +1,7 @@
 // Whether bytes are a sound archive: the header, then every entry with its picture's unshown lines and its pair.
 ghost use Prim.Native.Nat.{ℕ, _+_, _*_, _<_, _≤_};
 ghost use Rattle.facts.specs.Tests.{every};
-ghost use Rattle.archive.specs.Format.{picturePlace};
+ghost use Rattle.archive.specs.Format.{pictureOffset};
 ghost use Rattle.archive.specs.Sound.{countOf, entryOf, goodBench, goodShown, headerGood, headerSound, entryGood, isZero, restZero, entrySound};
 ghost use lib.ListN.{length};
 ghost use mathlib.Core.Bool.{_&&_};
@@ -83,7 +83,7 @@ fn all_zero(a: &[u8], from: usize, n: usize) -> bool
 // The fields of entry k of n, and the unshown lines of its picture, in an archive whose header is sound.
 fn row_sound(a: &[u8], n: usize, k: usize) -> bool
     requires { ⌜ (n ≡ countOf (now a)) × (n ≤ 1000) × (k < n) × (length (now a) ≡ 20 + 23056 * n) ⌝ }
-    ensures { λ r. ⌜ r ≡ (entryGood (entryOf (now (a .entry)) k) (picturePlace (countOf (now (a .entry))) k) && restZero (now (a .entry)) k) ⌝ }
+    ensures { λ r. ⌜ r ≡ (entryGood (entryOf (now (a .entry)) k) (pictureOffset (countOf (now (a .entry))) k) && restZero (now (a .entry)) k) ⌝ }
 {
     let e = read_entry(a, k);
     if !entry_good(e, 20 + 16 * n + 23040 * k) {
@@ -96,7 +96,7 @@ fn row_sound(a: &[u8], n: usize, k: usize) -> bool
 // The same of every entry.
 fn rows_sound(a: &[u8], n: usize) -> bool
     requires { ⌜ (n ≡ countOf (now a)) × (n ≤ 1000) × (length (now a) ≡ 20 + 23056 * n) ⌝ }
-    ensures { λ r. ⌜ r ≡ every (λ (k : ℕ). entryGood (entryOf (now (a .entry)) k) (picturePlace (countOf (now (a .entry))) k) && restZero (now (a .entry)) k) 0 n ⌝ }
+    ensures { λ r. ⌜ r ≡ every (λ (k : ℕ). entryGood (entryOf (now (a .entry)) k) (pictureOffset (countOf (now (a .entry))) k) && restZero (now (a .entry)) k) 0 n ⌝ }
 {
     for k in 0..n {
         if !row_sound(a, n, k) {

@@ -12,7 +12,7 @@ use Rattle.facts.specs.Lists.{inRoom}
 use Rattle.facts.proofs.Rooms.{room-length}
 use Rattle.byte_rows.specs.Rows.{put, copied, zeros, rows}
 use Rattle.byte_rows.proofs.Rows.{rest-all, rows-length, put-put, put-start, put-length, room-put-at, copied-fits, rows-same, rows-take}
-use Rattle.archive.specs.Format.{Frame, noFrame, frameIn, archiveOf, written, shownOf, entryRow, pictureRow, entry, header, picturePlace}
+use Rattle.archive.specs.Format.{Frame, noFrame, frameIn, archiveOf, written, shownOf, entryRow, pictureRow, entry, header, pictureOffset}
 use Rattle.archive.specs.Sound.{sound, framesOf, frameAt, countOf, entryOf, benchAt, numberAt, shownAt}
 use Rattle.byte_rows.specs.Numbers.{number4}
 use Rattle.archive_add.specs.Adding.{frameOf}
@@ -61,7 +61,7 @@ header-put o p q r s t n d e k l f g h i j =
 
 pub moved-length : (b : List ℕ) (m n : ℕ) → length (rows (movedRow b m) n) ≡ 16 * n
 unfolding movedRow
-moved-length b m n = rows-length (movedRow b m) 16 n (λ k l. entry-length (benchAt b k) (numberAt b k) (shownAt b k) (picturePlace m k))
+moved-length b m n = rows-length (movedRow b m) 16 n (λ k l. entry-length (benchAt b k) (numberAt b k) (shownAt b k) (pictureOffset m k))
 
 pub moved-start : (b : List ℕ) (m : ℕ) (out : List ℕ) → out ≡ put out 20 (rows (movedRow b m) 0)
 unfolding rows put
@@ -70,7 +70,7 @@ moved-start b m out = sym (rw append-nil (take-append-drop 20 out))
 pub moved-turn : (b : List ℕ) (n k : ℕ) (start out next : List ℕ) (e : Entry) → 20 ≤ length start → out ≡ put start 20 (rows (movedRow b (n + 1)) k) → e ≡ entryOf b k
     → next ≡ put out (20 + 16 * k) (entry (e .bench) (e .number) (e .shown) (20 + 16 * (n + 1) + 23040 * k))
     → next ≡ put start 20 (rows (movedRow b (n + 1)) (k + 1))
-unfolding rows movedRow picturePlace entryOf
+unfolding rows movedRow pictureOffset entryOf
 moved-turn b n k start out next e h o is g =
     rw (g, o, is, add-one k)
     (put-put start 20 (20 + 16 * k) (rows (movedRow b (n + 1)) k) (entry (benchAt b k) (numberAt b k) (shownAt b k) (20 + 16 * (n + 1) + 23040 * k)) h (omega (arith, moved-length b (n + 1) k)))
@@ -82,7 +82,7 @@ pub next-entries : (b : List ℕ) (n bench number shown : ℕ) (o p q r : List �
     → p ≡ inRoom (header (n + 1)) o → q ≡ put p 20 (rows (movedRow b (n + 1)) n)
     → r ≡ put q (20 + 16 * n) (entry bench number shown (20 + 16 * (n + 1) + 23040 * n))
     → r ≡ inRoom (nextEntries b n bench number shown) o
-unfolding nextEntries picturePlace
+unfolding nextEntries pictureOffset
 next-entries b n bench number shown o p q r e f g =
     let x : List ℕ = rows (movedRow b (n + 1)) n in
     let l : length (header (n + 1) ++ x) ≡ 20 + 16 * n = rw (length-append, header-length, moved-length) in
@@ -138,7 +138,7 @@ module _ (b : List ℕ) (is : SoundIs b) (f : Frame) where
   old-entries =
       rows-same (entryRow (frameIn (framesOf b ++ (f ∷ []))) (countOf b + 1)) (movedRow b (countOf b + 1)) (countOf b) (λ k l. rw (next-old k l, shown-is b is k l))
 
-  new-entry : entryRow (frameIn (framesOf b ++ (f ∷ []))) (countOf b + 1) (countOf b) ≡ entry (f .bench) (f .number) (shownOf f) (picturePlace (countOf b + 1) (countOf b))
+  new-entry : entryRow (frameIn (framesOf b ++ (f ∷ []))) (countOf b + 1) (countOf b) ≡ entry (f .bench) (f .number) (shownOf f) (pictureOffset (countOf b + 1) (countOf b))
   unfolding entryRow
   new-entry = rw next-new
 

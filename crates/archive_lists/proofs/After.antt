@@ -5,44 +5,22 @@ use native.Mathlib.Omega.{arith}
 use mathlib.Core.Path.{_≡_, refl, sym, ap, _∙_}
 use mathlib.Core.Bool.{true}
 use mathlib.Core.List.{List, [], _∷_, _++_}
-use borrow.Author.Tests.{lt-ltb}
 use lib.ListN.{length, take, length-append}
 use lib.Seq.{getD-at, length-take-le}
 use Rattle.facts.specs.Lists.{inRoom}
 use Rattle.archive.specs.declared.numbers.Entry.{Entry}
 use Rattle.archive.specs.Format.{Frame, noFrame, frameIn, shownOf, archiveOf}
-use Rattle.archive.specs.Sound.{countOf, entryOf, linesAt, framesOf, sound, storable}
-use Rattle.archive.specs.Answers.{entryRefusal, entryAnswer}
+use Rattle.archive.specs.Sound.{countOf, framesOf, storable}
 use Rattle.archive.proofs.Read.{sound-is, frames-count, frames-storable, only-archive}
-use Rattle.archive.proofs.Written.{shown-most, few-of, good-in, archive-fields, archive-lines, written-sound}
+use Rattle.archive.proofs.Written.{shown-most}
 use Rattle.archive_read.specs.Reading.{readAnswer, readPicture}
 use Rattle.archive_add.specs.Adding.{frameOf}
 use Rattle.archive_add.proofs.Adding.{AddTaken, add-taken}
-use Rattle.archive_lists.specs.Lists.{Add, frameAdded, refusalOf, nextArchive, Bytes}
-use Rattle.archive_lists.specs.After.{Gives, ReadAfterAdd}
-use Rattle.archive_lists.proofs.Storing.{front-same, written-count}
+use Rattle.archive_lists.specs.Lists.{Add, frameAdded, refusalOf, nextArchive, Gives, Bytes}
+use Rattle.archive_lists.specs.After.{ReadAfterAdd}
+use Rattle.archive_lists.proofs.Reading.{reads, reads-lines}
+use Rattle.archive_lists.proofs.Storing.{front-same}
 use Rattle.archive_lists.proofs.Steps.{taken-storable, taken-archive}
-
--- ---- entry k of the archive of a list
-
-module _ (fs : List Frame) (s : storable fs ≡ true) (k : ℕ) (l : k < length fs) where
-  given : entryAnswer (archiveOf fs) k ≡ record { entry = entryOf (archiveOf fs) k; refusal = 0 }
-  unfolding entryAnswer entryRefusal
-  given = rw (written-sound fs s, written-count fs s, lt-ltb k (length fs) l)
-
-  answered : readAnswer (archiveOf fs) k 23040 ≡ record { entry = entryOf (archiveOf fs) k; refusal = 0 }
-  unfolding readAnswer
-  answered = given
-
-  pub reads : Gives (readAnswer (archiveOf fs) k 23040) (frameIn fs k .bench) (frameIn fs k .number) (shownOf (frameIn fs k))
-  unfolding entryOf archiveOf
-  reads =
-      let e = archive-fields (frameIn fs) (length fs) (few-of fs s) (good-in fs s) k l in
-      rw answered (refl, e .0, e .1, e .2)
-
-  pub reads-lines : (picture : List ℕ) → length picture ≡ 23040 → readPicture (archiveOf fs) k picture ≡ inRoom (frameIn fs k .lines) picture
-  unfolding readPicture archiveOf
-  reads-lines picture w = rw (w, answered) (ap (λ (x : List ℕ). inRoom x picture) (archive-lines (frameIn fs) (length fs) (few-of fs s) (good-in fs s) k l))
 
 -- ---- the archive of a list, and one frame more
 

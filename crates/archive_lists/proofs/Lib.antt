@@ -1,4 +1,5 @@
 pub mod After
+pub mod Reading
 pub mod Steps
 pub mod Storing
 pub mod Theorems

@@ -22,9 +22,9 @@ pub written-length : (fs : List Frame) → storable fs ≡ true → length (arch
 unfolding archiveOf
 written-length fs s = archive-length (frameIn fs) (length fs) (few-of fs s) (good-in fs s)
 
-pub started-is : (room : List ℕ) → 20 ≤ length room → started room ≡ archiveOf []
-unfolding started lengthOr startRefusal startRoom inRoom
-started-is room h = rw (le-leb 20 (length room) h) (take-at (archiveOf []) _ 20 (written-length [] storable-none))
+pub started-is : (room : List ℕ) → startRefusal (length room) ≡ 0 → started room ≡ archiveOf []
+unfolding started lengthOr startRoom inRoom
+started-is room h = rw h (take-at (archiveOf []) _ 20 (written-length [] storable-none))
 
 module _ (fs : List Frame) (c : Add) (s : storable fs ≡ true) where
   -- ---- the refusal, by the list
@@ -58,10 +58,10 @@ module _ (fs : List Frame) (c : Add) (s : storable fs ≡ true) where
 
   -- ---- a proper call: taken exactly if the list with its frame can be stored
 
-  module _ (n : ℕ) (p : Proper n c) (l : length fs < n) where
+  module _ (p : Proper (length fs + 1) c) where
     room-there : length fs < 1000 → roomFor (length fs) (length (c .room)) ≡ true
     unfolding roomFor nextLength
-    room-there few = rw (lt-ltb (length fs) 1000 few, le-leb (20 + 23056 * (length fs + 1)) (length (c .room)) (omega (arith, p .room)))
+    room-there few = rw (lt-ltb (length fs) 1000 few, le-leb (20 + 23056 * (length fs + 1)) (length (c .room)) (p .room (omega arith)))
 
     pub storable-taken : storable (fs ++ (frameAdded c ∷ [])) ≡ true → refusalOf (archiveOf fs) c ≡ 0
     unfolding goodFields frameOf

@@ -6,14 +6,9 @@ use mathlib.Core.List.{List}
 use lib.ListN.{length, take}
 use Rattle.facts.specs.Lists.{inRoom}
 use Rattle.archive.specs.declared.numbers.Entry.{Entry}
-use Rattle.archive.specs.declared.EntryRead.{EntryRead}
 use Rattle.archive.specs.Sound.{countOf}
 use Rattle.archive_read.specs.Reading.{readAnswer, readPicture}
-use Rattle.archive_lists.specs.Lists.{Add, refusalOf, nextArchive, Bytes}
-
--- an answer of these three numbers
-abbrev pub Gives : EntryRead → ℕ → ℕ → ℕ → Type 0
-Gives r bench number shown = (r .refusal ≡ 0) × (r .entry .bench ≡ bench) × (r .entry .number ≡ number) × (r .entry .shown ≡ shown)
+use Rattle.archive_lists.specs.Lists.{Add, refusalOf, nextArchive, Gives, Bytes}
 
 -- after a frame was added to an archive of n, entry n is that frame, and every entry below reads as before
 abbrev pub ReadAfterAdd : Type 0

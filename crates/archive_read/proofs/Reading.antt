@@ -9,7 +9,7 @@ use lib.ListN.{length, take, drop}
 use Rattle.byte_rows.specs.Rows.{copied}
 use Rattle.byte_rows.proofs.Rows.{put-start, copied-fits}
 use Rattle.archive.specs.declared.EntryRead.{EntryRead}
-use Rattle.archive.specs.Format.{picturePlace}
+use Rattle.archive.specs.Format.{pictureOffset}
 use Rattle.archive.specs.Sound.{countOf, entryOf, shownAt, linesAt}
 use Rattle.archive.specs.Answers.{noEntry, entryAnswer}
 use Rattle.archive.proofs.Asking.{EntryGiven, entry-given}
@@ -29,7 +29,7 @@ module _ (a : List ℕ) (k : ℕ) (r : EntryRead) (is : r ≡ entryAnswer a k) (
   most = shown-most (shownAt a k) (sound-is a (taken .is-sound) .each k (taken .below) .shown)
 
   pub lines-inside : r .entry .offset + r .entry .shown * 90 ≤ length a
-  unfolding entryOf picturePlace
+  unfolding entryOf pictureOffset
   lines-inside =
       let s = sound-is a (taken .is-sound) in
       rw entry-is (omega (arith, s .head .size, taken .below, s .each k (taken .below) .offset, most))

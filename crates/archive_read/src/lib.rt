@@ -9,7 +9,8 @@ use archive::EntryRead;
 pub fn read(a: &[u8], k: u32, picture: &mut [u8]) -> EntryRead
     ensures { λ r. ⌜ (r ≡ readAnswer (now (a .entry)) k (length (now (picture .entry)))) × (now (picture .exit) ≡ readPicture (now (a .entry)) k (now (picture .entry))) ⌝ }
 {
-    if picture.len() != 23040 {
+    let size = picture.len();
+    if size != 23040 {
         return EntryRead {
             entry: Entry {
                 bench: 0,
@@ -24,7 +25,8 @@ pub fn read(a: &[u8], k: u32, picture: &mut [u8]) -> EntryRead
     if answer.refusal == 0 {
         let e = answer.entry;
         let from = e.offset as usize;
-        let end = from + e.shown as usize * 90;
+        let used = e.shown as usize * 90;
+        let end = from + used;
         byte_rows::copy(&a[from..end], picture, 0);
     }
     answer

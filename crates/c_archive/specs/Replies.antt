@@ -1,5 +1,7 @@
 -- What the C functions give for archives: results packed in one number.
-use Prim.Native.Nat.{ℕ, _+_, _*_, _/_}
+use Prim.Native.Nat.{ℕ, _+_, _*_}
+use mathlib.Core.Bool.{cond}
+use lib.Dec.{eqb}
 use Rattle.archive.specs.declared.Counted.{Counted}
 use Rattle.archive.specs.declared.EntryRead.{EntryRead}
 use Rattle.archive.specs.declared.search.Index.{Index}
@@ -19,8 +21,11 @@ unfoldable pub countReply : Counted → ℕ
 countReply c = reply (c .count) (c .refusal) 0
 
 -- of an entry or a read: the number; the bench from bit 40 on; bits 56 and 57 are 1 for 200 shown lines and 2 for 256
+unfoldable pub shownCode : ℕ → ℕ
+shownCode shown = cond (eqb shown 256) 2 (cond (eqb shown 200) 1 0)
+
 unfoldable pub entryReply : EntryRead → ℕ
-entryReply e = reply (e .entry .number) (e .refusal) (e .entry .bench + 65536 * (e .entry .shown / 128))
+entryReply e = reply (e .entry .number) (e .refusal) (e .entry .bench + 65536 * shownCode (e .entry .shown))
 
 -- of a find: the index, and bit 20 for found
 unfoldable pub indexReply : Index → ℕ → ℕ

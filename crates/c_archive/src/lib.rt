@@ -6,7 +6,7 @@ ghost use Rattle.archive.specs.Sound.{countOf};
 ghost use Rattle.archive.specs.Answers.{countAnswer, entryAnswer, findAnswer};
 ghost use Rattle.archive_read.specs.Reading.{readAnswer, readPicture};
 ghost use Rattle.archive_add.specs.Adding.{lengthOr, startRefusal, startRoom, nextLength, addRefusal, addRoom};
-ghost use Rattle.c_archive.specs.Replies.{writtenReply, countReply, entryReply, findReply};
+ghost use Rattle.c_archive.specs.Replies.{writtenReply, countReply, shownCode, entryReply, findReply};
 ghost use Rattle.c_archive.specs.Replies.{reply as Replies·reply};
 use archive::EntryRead;
 use archive::Index;
@@ -26,13 +26,26 @@ fn written_reply(w: Written) -> u64
     reply(w.length as u64, w.refusal, 0)
 }
 
+// 1 for 200 shown lines, 2 for 256.
+fn shown_code(shown: u32) -> u64
+    ensures { λ r. ⌜ (r ≡ shownCode shown) × (r ≤ 2) ⌝ }
+{
+    if shown == 256 {
+        return 2;
+    }
+    if shown == 200 {
+        return 1;
+    }
+    0
+}
+
 fn entry_read_reply(r: EntryRead) -> u64
-    requires { ⌜ (r .entry .bench ≤ 65535) × (r .entry .shown ≤ 256) ⌝ }
+    requires { ⌜ r .entry .bench ≤ 65535 ⌝ }
     ensures { λ x. ⌜ x ≡ entryReply r ⌝ }
 {
     let e = r.entry;
-    let lines = e.shown as u64 / 128;
-    reply(e.number as u64, r.refusal, e.bench as u64 + 65536 * lines)
+    let code = shown_code(e.shown);
+    reply(e.number as u64, r.refusal, e.bench as u64 + 65536 * code)
 }
 
 pub fn start_reply(room: &mut [u8]) -> u64

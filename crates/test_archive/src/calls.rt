@@ -16,15 +16,15 @@ pub(crate) fn start(room: &mut [u8]) -> usize {
 pub(crate) fn add(
     a: &[u8],
     bench: u32,
-    frame: u32,
+    frame_number: u32,
     shown: u32,
     picture: &[u8],
     room: &mut [u8],
 ) -> usize {
     fill(room, 91);
-    let w = archive_add::add(a, bench, frame, shown, picture, room);
+    let w = archive_add::add(a, bench, frame_number, shown, picture, room);
     number(b"add ", bench as u64);
-    number(b" ", frame as u64);
+    number(b" ", frame_number as u64);
     number(b" ", shown as u64);
     number(b" of ", picture.len() as u64);
     number(b" in ", room.len() as u64);
@@ -73,11 +73,11 @@ pub(crate) fn stands(a: &[u8], k: u32) {
     print::text(b"\n");
 }
 
-pub(crate) fn find(a: &[u8], bench: u32, frame: u32) {
-    let found = archive::find(a, bench, frame);
+pub(crate) fn find(a: &[u8], bench: u32, frame_number: u32) {
+    let found = archive::find(a, bench, frame_number);
     let index = found.index;
     number(b"find ", bench as u64);
-    number(b" ", frame as u64);
+    number(b" ", frame_number as u64);
     print::index(index);
     print::refusal(found.refusal);
 }

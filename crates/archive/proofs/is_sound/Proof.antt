@@ -1,3 +1,5 @@
+-- The header, then the entries.
+-- Assumes nothing.
 use Rattle.archive.proofs.Tests.{header-fails, header-known, entries-decide}
 use mathlib.Core.Path.{_∙_}
 use native.Mathlib.Omega.{arith}

@@ -15,11 +15,11 @@ entry-requires c κs = search needs
 cast-from : tie.Need-cast-from
 cast-from c = search needs
 
-cast-end : tie.Need-cast-end
-cast-end c = search needs
+cast-used : tie.Need-cast-used
+cast-used c = search needs
 
-mul-end : tie.Need-mul-end
-mul-end c = search needs
+mul-used : tie.Need-mul-used
+mul-used c = search needs
 
 add-end : tie.Need-add-end
 add-end c = search needs
@@ -60,8 +60,8 @@ read-spec =
     returns
     entry-requires
     cast-from
-    cast-end
-    mul-end
+    cast-used
+    mul-used
     add-end
     sub-copy
     part-copy-start

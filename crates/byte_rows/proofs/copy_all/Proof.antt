@@ -1,3 +1,5 @@
+-- Byte by byte, in order.
+-- Assumes nothing.
 use Rattle.byte_rows.proofs.Rows.{pasted, pasted-start, pasted-length, pasted-turn, pasted-end}
 use lib.ListN.{length}
 use Prim.Native.Nat.{_-_, _≤_}

@@ -1,12 +1,13 @@
 -- The definition's parts.
 -- Assumes nothing.
+use mathlib.Core.Path.{_∙_}
 use Rattle.c_archive.specs.Replies.{entryReply}
 use borrow.Author.Needs.{needs}
 use Rattle.c_archive.proofs.entry_read_reply.Statement.{statement}
 use Rattle.c_archive.proofs.entry_read_reply.Tie as tie
 
-cast-lines : tie.Need-cast-lines
-cast-lines c = search needs
+shown-code-requires : tie.Need-shown-code-requires
+shown-code-requires c κs = search needs
 
 cast-reply : tie.Need-cast-reply
 cast-reply c = search needs
@@ -25,9 +26,9 @@ reply-requires c κs = search needs
 
 returns : tie.Need-returns
 unfolding entryReply
-returns c = c .reply .ensures
+returns c = c .reply .ensures ∙ rw (c .before .before .before .shown-code .ensures .0)
 
 pub entry-read-reply-spec : {M : Type 1} → statement M
 entry-read-reply-spec =
     tie.close
-    (tie.spec cast-lines cast-reply cast-reply-2 mul-reply add-reply reply-requires returns)
+    (tie.spec shown-code-requires cast-reply cast-reply-2 mul-reply add-reply reply-requires returns)

@@ -1,3 +1,5 @@
+-- Four bytes, joined.
+-- Assumes nothing.
 use Rattle.byte_rows.specs.Numbers.{at4}
 use borrow.Author.Needs.{needs}
 use Rattle.archive.proofs.numbers.read4.Statement.{statement}

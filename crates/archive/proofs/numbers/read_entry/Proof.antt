@@ -1,5 +1,7 @@
+-- Four numbers.
+-- Assumes nothing.
 use borrow.Author.Needs.{needs}
-use Rattle.archive.specs.Format.{entryPlace}
+use Rattle.archive.specs.Format.{entryOffset}
 use Rattle.archive.specs.Sound.{entryOf, benchAt, numberAt, shownAt, offsetAt}
 use Rattle.archive.proofs.numbers.read_entry.Statement.{statement}
 use Rattle.archive.proofs.numbers.read_entry.Tie as tie
@@ -32,7 +34,7 @@ read4-requires-4 : tie.Need-read4-requires-4
 read4-requires-4 c κs = search needs
 
 returns : tie.Need-returns
-unfolding entryOf benchAt numberAt shownAt offsetAt entryPlace
+unfolding entryOf benchAt numberAt shownAt offsetAt entryOffset
 returns c = rw (c .before .before .before .read4 .ensures, c .before .before .read42 .ensures, c .before .read43 .ensures, c .read44 .ensures)
 
 pub read-entry-spec : {M : Type 1} → statement M

@@ -1,3 +1,5 @@
+-- Five numbers.
+-- Assumes nothing.
 use borrow.Author.Needs.{needs}
 use Rattle.archive.specs.Sound.{headerOf}
 use Rattle.archive.proofs.numbers.read_header.Statement.{statement}

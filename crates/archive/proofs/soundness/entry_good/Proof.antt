@@ -1,3 +1,5 @@
+-- The tests of `entryGood`, in its order.
+-- Assumes nothing.
 use borrow.Author.Tests.{not-true, not-false}
 use mathlib.Core.Bool.{and-false}
 use borrow.Author.Needs.{needs}

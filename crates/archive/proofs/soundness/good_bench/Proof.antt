@@ -1,3 +1,5 @@
+-- The two ends of `goodBench`.
+-- Assumes nothing.
 use borrow.Author.Tests.{le-leb, lt-leb}
 use Rattle.archive.specs.Sound.{goodBench}
 use Rattle.archive.proofs.soundness.good_bench.Statement.{statement}

@@ -1,3 +1,5 @@
+-- The two numbers of `goodShown`.
+-- Assumes nothing.
 use borrow.Author.Tests.{eq-eqb, ne-eqb}
 use Rattle.archive.specs.Sound.{goodShown}
 use Rattle.archive.proofs.soundness.good_shown.Statement.{statement}

@@ -1,3 +1,5 @@
+-- The tests of `headerGood`, in its order.
+-- Assumes nothing.
 use borrow.Author.Tests.{eq-eqb, ne-eqb, le-leb, lt-leb}
 use mathlib.Core.Bool.{and-false}
 use Prim.Native.Nat.{_+_, _-_, _*_}

@@ -1,3 +1,5 @@
+-- Zero by zero, in order.
+-- Assumes nothing.
 use Rattle.byte_rows.proofs.Rows.{pasted, pasted-start, pasted-length, pasted-turn, pasted-end, zeros-length, zeros-at}
 use Rattle.byte_rows.specs.Rows.{zeros}
 use Prim.Native.Nat.{_-_, _≤_}

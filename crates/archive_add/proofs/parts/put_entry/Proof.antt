@@ -1,3 +1,5 @@
+-- Four numbers, put down in order.
+-- Assumes nothing.
 use Rattle.archive_add.proofs.PutDown.{entry-put}
 use native.Mathlib.Omega.{arith}
 use borrow.Author.Needs.{needs}

@@ -1,3 +1,5 @@
+-- Five numbers, put down in order.
+-- Assumes nothing.
 use Rattle.archive_add.proofs.PutDown.{header-put}
 use mathlib.Core.Path.{refl}
 use borrow.Author.Needs.{needs}

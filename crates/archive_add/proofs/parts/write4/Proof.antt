@@ -1,3 +1,5 @@
+-- Four bytes, put down in order.
+-- Assumes nothing.
 use native.Mathlib.Omega.{arith}
 use lib.ListN.{length-set}
 use Rattle.byte_rows.specs.Numbers.{number4}
