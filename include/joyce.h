@@ -182,8 +182,8 @@ uint64_t joyce_reach(uint8_t internal, uint8_t total, uint8_t f0, uint8_t f1, ui
  * archive_len, a field out of range, a bench and number twice, an unshown line that is not zero. So
  * two sound archives of the same frames are the same bytes. A call that is refused writes nothing,
  * and no call writes behind what it says. */
-#define JOYCE_ARCHIVE_MAX 1000u                                     /* frames in the largest archive */
-#define JOYCE_ARCHIVE_LENGTH(n) ((size_t)20u + (size_t)23056u * (n)) /* bytes in an archive of n */
+#define JOYCE_ARCHIVE_MAX 1000u   /* frames in the largest archive */
+#define JOYCE_ARCHIVE_LENGTH(n) ((size_t)20u + (size_t)23056u * (size_t)(n)) /* bytes in one of n */
 
 /* Writes the archive of no frames to the front of the room. Reply: length (20), refusal 12. */
 uint64_t joyce_archive_start(uint8_t *room, size_t room_len);
