@@ -67,7 +67,11 @@ fn archive_numbers_are_the_same() {
     assert_eq!(numbers, [BAD_ARCHIVE, BAD_FRAME, NO_ROOM]);
     // A line, and no number: 20 bytes, and 23,056 for each frame.
     let formula = line_behind("#define JOYCE_ARCHIVE_LENGTH(n) ");
-    assert!(formula.starts_with(&format!("((size_t){}u + (size_t){}u * (n))", length(0), length(1) - length(0))));
+    assert!(formula.starts_with(&format!(
+        "((size_t){}u + (size_t){}u * (size_t)(n))",
+        length(0),
+        length(1) - length(0)
+    )));
 }
 
 /// Header, library and this side are of one version.
