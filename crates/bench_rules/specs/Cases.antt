@@ -1,4 +1,4 @@
--- The bench cases of document 01: one list, one statement.
+-- The bench cases of document 01: one list, one statement. P8 is as document 02, [2], has it.
 use Prim.Native.Nat.{ℕ, _+_, _*_}
 use mathlib.Core.Path.{_≡_}
 use mathlib.Core.Bool.{false}
@@ -90,7 +90,7 @@ cases =
     ∷ record {
       number = 8;
       given = pos (pixelIndex (pointerOf 0x3EE0) 71) ∷ pos (pixelIndex (pointerOf 0x3EE0) 72) ∷ [];
-      said = pos (1 * 16384 + 0x3FF8) ∷ pos (1 * 16384 + 0x0000) ∷ [];
+      said = pos (1 * 16384 + 0x3FF8) ∷ pos (2 * 16384 + 0x0000) ∷ [];
     }
     ∷ record { number = 9; given = pos (tableIndex 0x99) ∷ []; said = pos (4 * 16384 + 0x3200) ∷ [] }
     ∷ record { number = 10; given = pos (entryOf 0xFF 1) ∷ []; said = pos 0 ∷ [] }

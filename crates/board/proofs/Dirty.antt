@@ -54,8 +54,8 @@ module _ (d : LineSet) (rate : ℕ) (v : View) (at x : ℕ) where
   store-same w e = ap (λ (r : List ℕ). dirtyAfter d rate v (record { video = v .video; ram = r })) e ∙ dirty-same d w rate v
 
   -- past block 7, where no line is drawn from
-  pub store-past : Words d → v .video .table < 256 → ((i : ℕ) → getD (v .ram) i 0 < 256) → 131072 ≤ at → dirtyAfter d rate v (afterStore v at x) ≡ d
-  store-past w t bytes p = go (ltb at (length (v .ram))) refl
+  pub store-past : Words d → v .video .table < 256 → 131072 ≤ at → dirtyAfter d rate v (afterStore v at x) ≡ d
+  store-past w t p = go (ltb at (length (v .ram))) refl
     where
       go : (s : Bool) → ltb at (length (v .ram)) ≡ s → dirtyAfter d rate v (afterStore v at x) ≡ d
       go true e =
@@ -63,15 +63,15 @@ module _ (d : LineSet) (rate : ℕ) (v : View) (at x : ℕ) where
           (λ L.
           store-changed v at x L (ltb-true at (length (v .ram)) e)
           ∙ ap (λ (z : Bool). not (eqb (getD (v .ram) at 0) x) && z)
-          (touches-past (v .ram) (v .video .table) (v .video .top) at L p t (bytes _) (bytes _))
+          (touches-past (v .ram) (v .video .table) (v .video .top) at L p t)
           ∙ and-false (not (eqb (getD (v .ram) at 0) x)))
       go false e = store-same w (set-out (v .ram) at x (ltb-false at (length (v .ram)) e))
 
   -- either of the two, as the code tests it
-  pub store-unmarked : Words d → v .video .table < 256 → ((i : ℕ) → getD (v .ram) i 0 < 256)
+  pub store-unmarked : Words d → v .video .table < 256
       → (leb 131072 at || eqb (getD (v .ram) at 0) x) ≡ true → dirtyAfter d rate v (afterStore v at x) ≡ d
-  store-unmarked w t bytes e =
-      ⊎-elim (λ (p : leb 131072 at ≡ true). store-past w t bytes (leb-true 131072 at p))
+  store-unmarked w t e =
+      ⊎-elim (λ (p : leb 131072 at ≡ true). store-past w t (leb-true 131072 at p))
       (λ (p : eqb (getD (v .ram) at 0) x ≡ true). store-same w (ap (λ (z : ℕ). set (v .ram) at z) (sym (eqb-true (getD (v .ram) at 0) x p)) ∙ set-getD (v .ram) at 0))
       (either (leb 131072 at) (eqb (getD (v .ram) at 0) x) e)
 

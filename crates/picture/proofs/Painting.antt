@@ -11,10 +11,8 @@ use lib.ListN.{length, getD}
 use Rattle.lineset.specs.declared.NextLine.the-variants.{At, Nothing}
 use Rattle.lineset.specs.Lines.{firstOf}
 use Rattle.scanline.specs.declared.Pointer.{Pointer}
-use Rattle.scanline.specs.Pointers.{pointerOf, pointerWord, entryIndex}
-use Rattle.scanline.proofs.Pointers.{pointer-word-lt}
+use Rattle.scanline.specs.Pointers.{pointerOf, pointerWord}
 use Rattle.scanline.specs.Drawing.{View, pixelIndex, drawnByte, wordAt, pixelAt, drawn}
-use Rattle.scanline.proofs.Pixels.{pixel-index-lt}
 use Rattle.facts.specs.Lists.{overlaid}
 use Rattle.facts.proofs.Overlaid.{overlaid-length, overlaid-at, overlaid-none, overlaid-same, overlaid-or, between, between-in}
 use Rattle.lineset.proofs.Search.{Found, found-at, found-none}
@@ -102,13 +100,6 @@ line-done v L word p xs ys w r e =
         let d : k / 90 ≡ L = omega (arith, h .0, h .1) in
         let m : k % 90 ≡ k - L * 90 = omega (arith, h .0, h .1) in
         rw (d, m, r, w)
-
--- a line's pixel bytes lie in standard RAM
-pub pixel-inside : (ram : List ℕ) (table top L word i at : ℕ) (p : Pointer) → ((j : ℕ) → getD ram j 0 < 256) → word ≡ pointerWord ram table top L → p ≡ pointerOf word
-    → at ≡ pixelIndex p i → at < 131072
-pixel-inside ram table top L word i at p small w r e =
-    let l : word < 65536 = rw w (pointer-word-lt ram table top L (small (entryIndex table top L)) (small (entryIndex table top L + 1))) in
-    rw (e, r) (pixel-index-lt word i l)
 
 -- ---- line by line: the lines below n that a set has
 

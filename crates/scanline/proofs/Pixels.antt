@@ -1,132 +1,83 @@
 -- Laws of the indexes of a line's 90 pixel bytes: where they lie, and a test for them with no search.
 -- Assumes nothing.
 use Prim.Native.Nat.{ℕ, _+_, _-_, _*_, _/_, _%_, _≤_, _<_}
-use mathlib.Core.Path.{_≡_, refl, ap, sym, _∙_}
+use mathlib.Core.Path.{_≡_, refl}
 use mathlib.Core.Bool.{Bool, true, false, _&&_}
 use native.Mathlib.Omega.{arith}
-use borrow.Author.Tests.{ltb-true, ltb-false, lt-ltb, le-ltb, eq-eqb, ne-eqb, eqb-true, eqb-false}
+use borrow.Author.Tests.{ltb-true, ltb-false, eq-eqb, ne-eqb, eqb-true, eqb-false}
 use lib.Dec.{eqb, ltb}
 use Rattle.facts.proofs.Tests.{any-none, any-some}
+use Rattle.paging.specs.Memory.{indexOf}
 use Rattle.scanline.specs.Pointers.{pointerOf}
 use Rattle.scanline.specs.Drawing.{pixelIndex, pixelTouched}
 use Rattle.scanline.specs.declared.Pointer.{Pointer}
 
--- a start lies in its block, and a pixel byte in standard RAM
-pub start-lt : (w : ℕ) → pointerOf w .start < 16384
-unfolding pointerOf
-start-lt w = omega arith
+-- a pixel byte lies in standard RAM, whatever the pointer
+pub pixel-index-lt : (p : Pointer) (i : ℕ) → pixelIndex p i < 131072
+unfolding pixelIndex
+pixel-index-lt p i = omega arith
 
-pub pixel-index-lt : (w i : ℕ) → w < 65536 → pixelIndex (pointerOf w) i < 131072
-unfolding pixelIndex pointerOf
-pixel-index-lt w i h = omega arith
+-- a line that leaves its block runs on from the start of the next one, and from block 7 into block 0
+module _ (block start i : ℕ) (far : 16384 ≤ start + 8 * i) (near : start + 8 * i < 32768) where
+  pub into-next-block : block < 7 → pixelIndex (record { block = block; start = start }) i ≡ indexOf (block + 1) (start + 8 * i - 16384)
+  unfolding pixelIndex
+  into-next-block h = omega arith
 
--- the way from a start to a place, round its block: the ways that are below 720 and eight times a number are those of pixel bytes
-abbrev gap : ℕ → ℕ → ℕ
-gap start at = (at % 16384 + 16384 - start) % 16384
+  pub into-block-0 : block ≡ 7 → pixelIndex (record { block = block; start = start }) i ≡ indexOf 0 (start + 8 * i - 16384)
+  unfolding pixelIndex
+  into-block-0 h = omega arith
 
-gap-of : (start block at i : ℕ) → start < 16384 → i < 90 → at ≡ block * 16384 + (start + 8 * i) % 16384 → gap start at ≡ 8 * i
-gap-of start block at i s h e = omega arith
-
-at-gap :
-    (start block at : ℕ) →
-    start < 16384 →
-    at / 16384 ≡ block →
-    gap start at % 8 ≡ 0 →
-    at ≡ block * 16384 + (start + 8 * (gap start at / 8)) % 16384
-at-gap start block at s b g = omega arith
-
--- the places of the pixel bytes are the only ones touched
+-- the indexes of the pixel bytes are the only ones touched
 touched-none : (w at : ℕ) → ((i : ℕ) → i < 90 → at ≡ pixelIndex (pointerOf w) i → ⊥) → pixelTouched w at ≡ false
 unfolding pixelTouched
 touched-none w at h =
     any-none (λ (i : ℕ). eqb at (pixelIndex (pointerOf w) i)) 0 90
     (λ i lo hi. ne-eqb at (pixelIndex (pointerOf w) i) (h i (omega arith)))
 
+touched-some : (w at i : ℕ) → i < 90 → at ≡ pixelIndex (pointerOf w) i → pixelTouched w at ≡ true
+unfolding pixelTouched
+touched-some w at i l e =
+    any-some (λ (i : ℕ). eqb at (pixelIndex (pointerOf w) i)) 0 90 i (omega arith) (omega arith) (eq-eqb at (pixelIndex (pointerOf w) i) e)
+
 -- none lies past standard RAM
-pub pixels-below : (w at : ℕ) → w < 65536 → 131072 ≤ at → pixelTouched w at ≡ false
-pixels-below w at h p =
-    touched-none w at (λ (i : ℕ) (l : i < 90) (z : at ≡ pixelIndex (pointerOf w) i). omega (arith, pixel-index-lt w i h))
+pub pixels-below : (w at : ℕ) → 131072 ≤ at → pixelTouched w at ≡ false
+pixels-below w at p =
+    touched-none w at (λ (i : ℕ) (l : i < 90) (z : at ≡ pixelIndex (pointerOf w) i). omega (arith, pixel-index-lt (pointerOf w) i))
 
--- the test of a place, one by one: another block, no multiple of eight, and the length of the way
-pub other-block : (w at : ℕ) (p : Pointer) → p ≡ pointerOf w → (at / 16384 ≡ p .block → ⊥) → pixelTouched w at ≡ false
-unfolding pixelIndex
-other-block w at p e ne =
-    touched-none w at (λ (i : ℕ) (h : i < 90) (z : at ≡ pixelIndex (pointerOf w) i). let f : p .block ≡ pointerOf w .block = ap (λ (q : Pointer). q .block) e in ne (omega arith))
+-- a line starts at two eights for each eight of its word, in whatever block
+start-index : (w : ℕ) → w / 8192 * 16384 + (16 * (w % 8192 / 8) + w % 8192 % 8) ≡ 16 * (w / 8) + w % 8
+start-index w = omega arith
 
-pub other-gap :
-    (w at : ℕ) (p : Pointer) → p ≡ pointerOf w → (gap (p .start) at % 8 ≡ 0 → ⊥) → pixelTouched w at ≡ false
-unfolding pixelIndex
-other-gap w at p e ne =
-    touched-none w at
-    (λ (i : ℕ) (h : i < 90) (z : at ≡ pixelIndex (pointerOf w) i).
-    let f : p .start ≡ pointerOf w .start = ap (λ (q : Pointer). q .start) e in
-    let g = gap-of (pointerOf w .start) (pointerOf w .block) at i (start-lt w) h z in
-    ne (rw f (rw g (omega arith))))
+pixel-word : (w i : ℕ) → pixelIndex (pointerOf w) i ≡ (16 * (w / 8) + w % 8 + 8 * i) % 131072
+unfolding pixelIndex pointerOf
+pixel-word w i = rw (start-index w)
 
-module _ (w at : ℕ) (b : at / 16384 ≡ pointerOf w .block) (g : gap (pointerOf w .start) at % 8 ≡ 0) where
-  near : gap (pointerOf w .start) at < 720 → pixelTouched w at ≡ true
-  unfolding pixelTouched pixelIndex
-  near h =
-      any-some (λ (i : ℕ). eqb at (pixelIndex (pointerOf w) i)) 0 90 (gap (pointerOf w .start) at / 8)
-      (omega arith)
-      (omega arith)
-      (eq-eqb at (pixelIndex (pointerOf w) (gap (pointerOf w .start) at / 8)) (at-gap (pointerOf w .start) (pointerOf w .block) at (start-lt w) b g))
+-- the way from a line's start to an index, in eights, round the circle of standard RAM
+abbrev way : ℕ → ℕ → ℕ
+way w at = (at / 8 + 16384 - 2 * (w / 8)) % 16384
 
-  far : 720 ≤ gap (pointerOf w .start) at → pixelTouched w at ≡ false
-  unfolding pixelIndex
-  far h =
-      touched-none w at
-      (λ (i : ℕ) (l : i < 90) (z : at ≡ pixelIndex (pointerOf w) i). omega (arith, gap-of (pointerOf w .start) (pointerOf w .block) at i (start-lt w) l z))
+-- a pixel byte lies at the start's place in eight, and its number is the way to it: q eights and r are the word's
+way-there : (q r i at : ℕ) → q < 8192 → r < 8 → i < 90 → at ≡ (16 * q + r + 8 * i) % 131072 → (r ≡ at % 8) × ((at / 8 + 16384 - 2 * q) % 16384 ≡ i)
+way-there q r i at a b l e = (omega arith, omega arith)
 
-  way : ltb (gap (pointerOf w .start) at) 720 ≡ pixelTouched w at
-  way = go (ltb (gap (pointerOf w .start) at) 720) refl
-    where
-      go : (t : Bool) → ltb (gap (pointerOf w .start) at) 720 ≡ t → t ≡ pixelTouched w at
-      go true e = sym (near (ltb-true (gap (pointerOf w .start) at) 720 e))
-      go false e = sym (far (ltb-false (gap (pointerOf w .start) at) 720 e))
+way-back : (q r at : ℕ) → q < 8192 → r < 8 → at < 131072 → r ≡ at % 8 → at ≡ (16 * q + r + 8 * ((at / 8 + 16384 - 2 * q) % 16384)) % 131072
+way-back q r at a b l e = omega arith
 
-pub within :
-    (w at : ℕ) (p : Pointer) →
-    p ≡ pointerOf w →
-    at / 16384 ≡ p .block →
-    gap (p .start) at % 8 ≡ 0 →
-    ltb (gap (p .start) at) 720 ≡ pixelTouched w at
-within w at p e = rw e (way w at)
+module _ (w at : ℕ) (h : w < 65536) where
+  pixel-way : (i : ℕ) → i < 90 → at ≡ pixelIndex (pointerOf w) i → (w % 8 ≡ at % 8) × (way w at ≡ i)
+  pixel-way i l e = way-there (w / 8) (w % 8) i at (omega arith) (omega arith) l (rw pixel-word at e)
 
--- the same test on the parts of a pointer word: the block, the place in eight, and the way in eights
-other-eighth : (start at : ℕ) → start < 16384 → (start % 8 ≡ at % 8 → ⊥) → gap start at % 8 ≡ 0 → ⊥
-other-eighth start at s ne e = ne (omega arith)
+  way-pixel : at < 131072 → w % 8 ≡ at % 8 → at ≡ pixelIndex (pointerOf w) (way w at)
+  way-pixel l e = rw pixel-word (way-back (w / 8) (w % 8) at (omega arith) (omega arith) l e)
 
-same-eighth : (start at : ℕ) → start < 16384 → start % 8 ≡ at % 8 → gap start at ≡ 8 * ((at % 16384 / 8 + 2048 - start / 8) % 2048)
-same-eighth start at s e = omega arith
-
-start-eighth : (w : ℕ) → (pointerOf w .start % 8 ≡ w % 8) × (pointerOf w .start / 8 ≡ 2 * (w % 8192 / 8))
-unfolding pointerOf
-start-eighth w = (omega arith, omega arith)
-
-eights : (n : ℕ) → ltb (8 * n) 720 ≡ ltb n 90
-eights n = go (ltb n 90) refl
+-- an index is a pixel byte's if it lies at the same place in eight and the way to it is below 90: no block is compared
+pub word-touched : (w at : ℕ) → w < 65536 → at < 131072
+    → pixelTouched w at ≡ (eqb (w % 8) (at % 8) && ltb ((at / 8 + 16384 - 2 * (w / 8)) % 16384) 90)
+word-touched w at h l = go (eqb (w % 8) (at % 8)) refl (ltb (way w at) 90) refl
   where
-    go : (t : Bool) → ltb n 90 ≡ t → ltb (8 * n) 720 ≡ t
-    go true e = let l = ltb-true n 90 e in lt-ltb (8 * n) 720 (omega arith)
-    go false e = let l = ltb-false n 90 e in le-ltb (8 * n) 720 (omega arith)
-
-pub word-touched : (w at : ℕ)
-    → pixelTouched w at ≡ (eqb (w / 8192) (at / 16384) && (eqb (w % 8) (at % 8) && ltb ((at % 16384 / 8 + 2048 - 2 * (w % 8192 / 8)) % 2048) 90))
-unfolding pointerOf
-word-touched w at = go (eqb (w / 8192) (at / 16384)) refl (eqb (w % 8) (at % 8)) refl
-  where
-    go : (t : Bool) → eqb (w / 8192) (at / 16384) ≡ t → (u : Bool) → eqb (w % 8) (at % 8) ≡ u
-        → pixelTouched w at ≡ (t && (u && ltb ((at % 16384 / 8 + 2048 - 2 * (w % 8192 / 8)) % 2048) 90))
-    go false e u f = other-block w at (pointerOf w) refl (λ (z : at / 16384 ≡ w / 8192). eqb-false (w / 8192) (at / 16384) e (sym z))
+    go : (t : Bool) → eqb (w % 8) (at % 8) ≡ t → (u : Bool) → ltb (way w at) 90 ≡ u → pixelTouched w at ≡ (t && u)
+    go false e u f = touched-none w at (λ (i : ℕ) (b : i < 90) (z : at ≡ pixelIndex (pointerOf w) i). eqb-false (w % 8) (at % 8) e (pixel-way w at h i b z .0))
+    go true e true f = touched-some w at (way w at) (ltb-true (way w at) 90 f) (way-pixel w at h l (eqb-true (w % 8) (at % 8) e))
     go true e false f =
-        other-gap w at (pointerOf w) refl
-        (other-eighth (pointerOf w .start) at (start-lt w) (λ z. eqb-false (w % 8) (at % 8) f (sym (start-eighth w .0) ∙ z)))
-    go true e true f =
-        let m : pointerOf w .start % 8 ≡ at % 8 = start-eighth w .0 ∙ eqb-true (w % 8) (at % 8) f in
-        let g = same-eighth (pointerOf w .start) at (start-lt w) m in
-        let q : gap (pointerOf w .start) at % 8 ≡ 0 = omega arith in
-        sym (within w at (pointerOf w) refl (sym (eqb-true (w / 8192) (at / 16384) e)) q)
-        ∙ ap (λ (n : ℕ). ltb n 720) g
-        ∙ eights ((at % 16384 / 8 + 2048 - pointerOf w .start / 8) % 2048)
-        ∙ ap (λ (n : ℕ). ltb ((at % 16384 / 8 + 2048 - n) % 2048) 90) (start-eighth w .1)
+        let far : 90 ≤ way w at = ltb-false (way w at) 90 f in
+        touched-none w at (λ (i : ℕ) (b : i < 90) (z : at ≡ pixelIndex (pointerOf w) i). omega (arith, pixel-way w at h i b z .1))

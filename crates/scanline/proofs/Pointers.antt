@@ -4,13 +4,11 @@ use Prim.Native.Nat.{ℕ, _+_, _*_, _/_, _%_, _≤_, _<_}
 use mathlib.Core.Path.{_≡_, refl, ap, _∙_}
 use mathlib.Core.Bool.{Bool, true, false, cond, _||_, or-true}
 use mathlib.Core.Logic.{_⊎_, inl, inr}
-use mathlib.Core.List.{List}
 use native.Mathlib.Omega.{arith}
 use borrow.Author.Tests.{ltb-false, eqb-false, lt-ltb, le-ltb, ne-eqb}
 use lib.Dec.{eqb, ltb}
-use lib.ListN.{getD}
 use Rattle.facts.proofs.Bools.{or-first, or-second}
-use Rattle.scanline.specs.Pointers.{tableIndex, entryOf, entryIndex, pointerWord, pointerOf, pointerRefusal, wordOf, madePointer}
+use Rattle.scanline.specs.Pointers.{tableIndex, entryOf, entryIndex, pointerOf, pointerRefusal, wordOf, madePointer}
 use Rattle.scanline.specs.declared.Pointer.{Pointer}
 
 -- the table's place is 512 x F5
@@ -26,15 +24,6 @@ entry-index-lt table top line h = omega (arith, table-index table)
 pub entry-index-even : (table top line : ℕ) → entryIndex table top line % 2 ≡ 0
 unfolding entryIndex
 entry-index-even table top line = omega (arith, table-index table)
-
--- a pointer word of two bytes
-pub pointer-word-lt :
-    (ram : List ℕ) (table top line : ℕ) →
-    getD ram (entryIndex table top line) 0 < 256 →
-    getD ram (entryIndex table top line + 1) 0 < 256 →
-    pointerWord ram table top line < 65536
-unfolding pointerWord
-pointer-word-lt ram table top line l h = omega arith
 
 -- the three tests of a refusal
 abbrev refused : Pointer → Bool

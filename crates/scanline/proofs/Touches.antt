@@ -7,8 +7,7 @@ use mathlib.Core.List.{List}
 use native.Mathlib.Omega.{arith}
 use borrow.Author.Tests.{eqb-true, eqb-false, eq-eqb, ne-eqb}
 use lib.Dec.{eqb}
-use lib.ListN.{getD}
-use Rattle.scanline.proofs.Pointers.{entry-index-lt, entry-index-even, pointer-word-lt}
+use Rattle.scanline.proofs.Pointers.{entry-index-lt, entry-index-even}
 use Rattle.scanline.proofs.Pixels.{pixels-below}
 use Rattle.scanline.specs.Pointers.{entryIndex, pointerWord}
 use Rattle.scanline.specs.Drawing.{pixelTouched, touches}
@@ -40,10 +39,8 @@ module _ (ram : List ℕ) (table top at line : ℕ) where
   pub touches-past :
       131072 ≤ at →
       table < 256 →
-      getD ram (entryIndex table top line) 0 < 256 →
-      getD ram (entryIndex table top line + 1) 0 < 256 →
       touches ram table top at line ≡ false
-  touches-past p t l h =
+  touches-past p t =
       let e : entryIndex table top line + 1 < 131072 = entry-index-lt table top line t in
       touches-other (λ (z : at / 2 ≡ entryIndex table top line / 2). omega arith)
-      ∙ pixels-below (pointerWord ram table top line) at (pointer-word-lt ram table top line l h) p
+      ∙ pixels-below (pointerWord ram table top line) at p

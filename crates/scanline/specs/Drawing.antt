@@ -10,9 +10,10 @@ use Rattle.scanline.specs.declared.Pointer.{Pointer}
 use Rattle.scanline.specs.declared.Video.{Video}
 use Rattle.scanline.specs.Pointers.{entryIndex, pointerWord, pointerOf}
 
--- "Byte i (0 to 89) is at start + 8i, taken mod 16,384 in the same block."
+-- "Byte i of a line is at block x 16,384 + start + 8i, taken mod 131,072." "From block 7 a line runs on into block 0 (house)."
+-- (document 02, [2], in place of document 01's wrap in the block)
 unfoldable pub pixelIndex : Pointer → ℕ → ℕ
-pixelIndex p i = indexOf (p .block) ((p .start + 8 * i) % 16384)
+pixelIndex p i = (indexOf (p .block) (p .start) + 8 * i) % 131072
 
 -- "A picture is 256 lines of 90 bytes, 23,040 bytes"
 unfoldable pub pictureFits : ℕ → Bool

@@ -87,11 +87,12 @@ pub fn make_pointer(p: Pointer) -> MadePointer
     }
 }
 
-// The index of pixel byte i of a line.
+// The index of pixel byte i of a line, which runs on from block to block, and from block 7 into block 0.
 pub fn pixel_index(p: Pointer, i: u8) -> usize
     ensures { λ r. ⌜ r ≡ pixelIndex p i ⌝ }
 {
-    p.block as usize * 16384 + (p.start as usize + 8 * i as usize) % 16384
+    let way = 8 * i as usize;
+    (p.block as usize * 16384 + (p.start as usize + way)) % 131072
 }
 
 // A RAM byte as F7 has it drawn.

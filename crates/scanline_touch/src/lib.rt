@@ -10,17 +10,17 @@ ghost use Rattle.scanline.specs.Drawing.{touches, pixelTouched};
 use lineset::LineSet;
 use scanline::pointer_word;
 
-// Whether an index is one of the 90 pixel bytes that a pointer word names: it lies in the word's block and at the same
-// place in eight, and the way to it, round the block, is below 90 eights. No branch, and 16 bits, since it is asked of
-// every line.
+// Whether an index is one of the 90 pixel bytes that a pointer word names: it has the same place in its eight bytes as the
+// line's start, and the way from there, in eights and round the 131,072 bytes of standard RAM, is below 90. A word leaves
+// out bit 3 of the start, so its eight is twice the word's. No branch, and 16 bits, since it is asked of every line.
 fn pixel_hit(word: u16, at: usize) -> bool
     requires { ⌜ at < 131072 ⌝ }
     ensures { λ r. ⌜ r ≡ pixelTouched word at ⌝ }
 {
-    let block = (at / 16384) as u16;
-    let place = (at % 16384 / 8) as u16;
-    let eights = (place + 2048 - 2 * (word % 8192 / 8)) % 2048;
-    (word / 8192 == block) & ((word % 8 == (at % 8) as u16) & (eights < 90))
+    let start = 2 * (word / 8);
+    let eight = (at / 8) as u16;
+    let way = (eight + 16384 - start) % 16384;
+    (word % 8 == (at % 8) as u16) & (way < 90)
 }
 
 // A hit, 1 or 0, for each of the table's entries that has an index among its pixel bytes. The 256 hits stand twice, so

@@ -1,8 +1,13 @@
--- `pixel_index` gives `pixelPlace`: the same operations in the same order.
+-- `pixel_index` gives `pixelIndex`, the way from the start added up first.
+-- Assumes nothing.
+use native.Mathlib.Omega.{arith}
 use borrow.Author.Needs.{needs}
 use Rattle.scanline.specs.Drawing.{pixelIndex}
 use Rattle.scanline.proofs.pixel_index.Statement.{statement}
 use Rattle.scanline.proofs.pixel_index.Tie as tie
+
+mul-way : tie.Need-mul-way
+mul-way c = search needs
 
 cast-result : tie.Need-cast-result
 cast-result c = search needs
@@ -13,9 +18,6 @@ mul-result c = search needs
 cast-result-2 : tie.Need-cast-result-2
 cast-result-2 c = search needs
 
-mul-result-2 : tie.Need-mul-result-2
-mul-result-2 c = search needs
-
 add-result : tie.Need-add-result
 add-result c = search needs
 
@@ -24,9 +26,9 @@ add-result-2 c = search needs
 
 returns : tie.Need-returns
 unfolding pixelIndex
-returns c = search needs
+returns c = omega arith
 
 pub pixel-index-spec : {M : Type 1} → statement M
 pixel-index-spec =
     tie.close
-    (tie.spec cast-result mul-result cast-result-2 mul-result-2 add-result add-result-2 returns)
+    (tie.spec mul-way cast-result mul-result cast-result-2 add-result add-result-2 returns)

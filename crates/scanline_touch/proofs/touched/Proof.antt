@@ -41,9 +41,7 @@ empty-requires c κs = search needs
 
 returns : tie.Need-returns
 returns c =
-    let k = c .before .before in
-    c .empty .ensures
-    ∙ set-agree _ _ (λ L l. sym (touches-past _ _ _ _ L (c .before .if1 .taken) (search needs) (k .shared-slice-known .given _ .fits) (k .shared-slice-known .given _ .fits)))
+    c .empty .ensures ∙ set-agree _ _ (λ L l. sym (touches-past _ _ _ _ L (c .before .if1 .taken) (search needs)))
 
 slice-aggregate-hit-entries : tie.Need-slice-aggregate-hit-entries
 slice-aggregate-hit-entries c = search needs

@@ -8,7 +8,8 @@ use borrow.Author.Needs.{needs}
 use lib.ListN.{length}
 use Rattle.facts.specs.Lists.{overlaid}
 use Rattle.facts.proofs.Overlaid.{between, overlaid-length, overlaid-start, overlaid-next}
-use Rattle.picture.proofs.Painting.{lineByte, line-byte, line-done, pixel-inside}
+use Rattle.scanline.proofs.Pixels.{pixel-index-lt}
+use Rattle.picture.proofs.Painting.{lineByte, line-byte, line-done}
 use Rattle.picture.proofs.paint.paint_line.Statement.{statement}
 use Rattle.picture.proofs.paint.paint_line.Tie as tie
 
@@ -41,10 +42,7 @@ add-to c = omega arith
 
 shared-slice-read-drawn-byte : tie.Need-shared-slice-read-drawn-byte Inv-loop μ-loop
 shared-slice-read-drawn-byte c =
-    let h : c .before .pixel-index .result < 131072 =
-    pixel-inside _ _ _ _ _ _ _ _ (λ j. omega (arith, c .shared-slice-known2 .given j)) (c .before .before .before .before .before .pointer-word .ensures)
-    (c .before .before .before .before .read-pointer .ensures)
-    (c .before .pixel-index .ensures) in
+    let h : c .before .pixel-index .result < 131072 = rw (c .before .pixel-index .ensures) (pixel-index-lt _ _) in
     omega arith
 
 drawn-byte-requires : tie.Need-drawn-byte-requires Inv-loop μ-loop

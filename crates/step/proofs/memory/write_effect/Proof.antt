@@ -61,11 +61,10 @@ past : (e : tie.Then1) → (let i = e .before .before in let s = i .before .befo
     s .args .b ≡ withMarks (s .args .b) (now (s .args .ram)) (s .args .b) (set (now (s .args .ram)) (i .index2 .result) (s .args .value)))
 past e =
     let i = e .before .before in
-    let k = i .before .before .before .before .before in
-    let s = k .before in
+    let s = i .before .before .before .before .before .before in
     let at : 131072 ≤ i .index2 .result = omega (arith, i .index2 .ensures, e .if1 .taken) in
     ap (λ (d : LineSet). withDirty (s .args .b) d)
-    (sym (store-past (s .args .b .dirty) (s .args .b .rate) (viewOf (s .args .b) (now (s .args .ram))) (i .index2 .result) (s .args .value) (words s) (table s .fits) (λ j. k .slice-known .given j .fits) at))
+    (sym (store-past (s .args .b .dirty) (s .args .b .rate) (viewOf (s .args .b) (now (s .args .ram))) (i .index2 .result) (s .args .value) (words s) (table s .fits) at))
 
 returns : tie.Need-returns
 unfolding ownRefusal kindRefusal stateRefusal streamEnded firstRefusal stepOutcome boardAfter

@@ -55,7 +55,7 @@ returns c =
     ap (λ (d : LineSet). withDirty (s .args .self) d)
     (sym
     (store-unmarked (s .args .self .dirty) (s .args .self .rate) (view s) (i .keyboard-index .result) (s .args .value) (words s) (table s .fits)
-    (λ j. i .before .shared-slice-known .given j .fits) (sym (c .before .is-unmarked .ensures) ∙ c .if1 .taken)))
+    (sym (c .before .is-unmarked .ensures) ∙ c .if1 .taken)))
     ∙ at-offset i
 
 returns-2 : tie.Need-returns-2

@@ -36,12 +36,11 @@ is-unmarked-requires c κs = search needs
 
 returns : tie.Need-returns
 returns c =
-    let k = c .before .before in
-    let s = k .before in
+    let s = c .before .before .before in
     ap (λ (d : LineSet). withDirty (s .args .self) d)
     (sym
     (store-unmarked (s .args .self .dirty) (s .args .self .rate) (view s) (s .args .at) (s .args .value) (words s) (table s .fits)
-    (λ j. k .shared-slice-known .given j .fits) (sym (c .before .is-unmarked .ensures) ∙ c .if1 .taken)))
+    (sym (c .before .is-unmarked .ensures) ∙ c .if1 .taken)))
 
 returns-2 : tie.Need-returns-2
 returns-2 c =
