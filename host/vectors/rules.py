@@ -1,4 +1,5 @@
-"""The rules of document 01, written from the paper: nothing here calls the library or looks at its code.
+"""The rules of document 01 as changed by document 02, written from the papers: nothing here calls the library or looks at
+its code.
 
 Where our words differ from the paper's: a dirty line is a noted one, a port is a channel, forwarded is passed on, Board is
 the record, Reference the slate; table, top and control are F5, F6 and F7."""
@@ -6,6 +7,7 @@ from collections import namedtuple
 from dataclasses import dataclass, replace
 
 BLOCK = 16384
+STANDARD = 8 * BLOCK
 LINE_BYTES = 90
 BOOT_MAX = 1024
 
@@ -110,9 +112,14 @@ def make_pointer(block, start):
     return block * 8192 + start // 16 * 8 + start % 8
 
 
-def pixel_indexes(word):
+def start_index(word):
     block, start = read_pointer(word)
-    return [block * BLOCK + (start + 8 * i) % BLOCK for i in range(LINE_BYTES)]
+    return block * BLOCK + start
+
+
+def pixel_indexes(word):
+    """Document 02, [2]: a line runs on into the next block, and from block 7 into block 0."""
+    return [(start_index(word) + 8 * i) % STANDARD for i in range(LINE_BYTES)]
 
 
 def drawn_line(ram, table, top, control, line):
@@ -123,7 +130,6 @@ def drawn_line(ram, table, top, control, line):
 def touched_lines(ram, table, top, count, at):
     """The first `count` lines that another byte at an index changes: in the pointer word, or in one of the 90 bytes that
     the pointer before names."""
-    block, place = divmod(at, BLOCK)
     first = table_index(table)
     entries = bytes(ram[first:first + 512]).ljust(512, b"\0")
     lines = set()
@@ -131,7 +137,7 @@ def touched_lines(ram, table, top, count, at):
         entry = 2 * ((top + line) % 256)
         word = entries[entry] + 256 * entries[entry + 1]
         in_word = at - first in (entry, entry + 1)
-        if in_word or word // 8192 == block and (place - read_pointer(word)[1]) % BLOCK in range(0, 8 * LINE_BYTES, 8):
+        if in_word or at < STANDARD and (at - start_index(word)) % STANDARD in range(0, 8 * LINE_BYTES, 8):
             lines.add(line)
     return lines
 

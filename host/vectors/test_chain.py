@@ -184,8 +184,18 @@ def ends():
     for at in (SIZE, SIZE + 1, 0x30000, 0xFFFFFF):
         store(at, 1)
     show("stores past the end")
-    store(7 * BLOCK + 7, 0xA5)
-    show("a line goes on at the start of its block")
+    store(7, 0xA5)
+    show("a line from block 7 goes on in block 0")
+    alter(7 * BLOCK + 7)
+    show("the start of its own block, which no line shows")
+    point(71, 1, 0x3FF0)
+    clean()
+    alter(2 * BLOCK)
+    show("a line from block 1 goes on in block 2")
+    alter(2 * BLOCK + 8 * 87)
+    show("its last byte")
+    alter(2 * BLOCK + 8 * 88)
+    show("the byte behind it")
 
 
 def rolls():

@@ -1,35 +1,11 @@
 #!/usr/bin/env python3
-"""Writes stdin (the list that test_long_run reads) and stdout (what it must print, by the rules of document 01: a Reference
-is stepped by the same list). Usage: test_long_run.py DIRECTORY"""
+"""Writes stdin (the list that test_long_run reads) and stdout (what it must print, by the rules of documents 01 and 02).
+Usage: test_long_run.py DIRECTORY"""
 import sys
 
-from common import lcg, pattern
-from rules import Reference, make_pointer
-
-
-def checksum(data):
-    total = 1
-    for byte in data:
-        total = (total * 257 + byte) % 1000000007
-    return total
-
-
-class BootStream:
-    """Which fetches are refused with 4. The Reference knows nothing of it."""
-
-    def __init__(self, length):
-        self.mode, self.at, self.length = True, 0, length
-
-    def refusal(self, kind, args):
-        if kind == "fetch" and self.mode:
-            if self.at >= self.length:
-                return 4
-            self.at += 1
-        if kind == "out" and args[0] == 0xF8 and args[1] % 16 == 0:
-            self.mode = False
-        if kind == "out" and args[0] == 0xF8 and args[1] % 16 == 1:
-            self.mode, self.at = True, 0
-        return 0
+from common import lcg
+from lists import CallList
+from rules import make_pointer
 
 
 # ------------------------------------------------------------------ the list of steps
@@ -96,6 +72,19 @@ def s_overlap(i, x, y, z):
         line = n // 2
         return (W, 0x5400 + n, half(n, 0x5400 + line % 20 * 16 + line % 8))
     return (W, 0x5300 + y % 1536, z % 256)
+
+
+def s_ends(i, x, y, z):
+    """Lines that start near the end of each block, and stores on both sides of the ends."""
+    if i == 0:
+        return (O, 0xF5, 0x5B)
+    if i <= 512:
+        n = i % 512
+        line = n // 2
+        return (W, 0xB600 + n, half(n, line % 8 * 16384 + 0x3D40 + line // 8 * 16 + line % 8))
+    if i % 24 == 0:
+        return (O, 0xF3, 0x84 + y % 4)
+    return (W, x % 4 * 16384 + (0x3D40 + y % 0x590) % 16384, z % 256)
 
 
 def s_shared(i, x, y, z):
@@ -167,71 +156,35 @@ def s_mixture(i, x, y, z):
     return (S,)
 
 
-# refused calls at the end of a scene, before its last refresh: a step on a short RAM and a refresh into a short picture
+# rounds of refused calls at the end of a scene, before its last refresh
 ROUNDS = {"refused calls": 4, "mixture": 8}
-TRIED = [(3, 0x30, 85), (7, 3, 85), (5, 0xF6, 85), (6, 0, 0)]
 
 SCENES = [
     ("first refresh", s_table, 0, 0), ("table built", s_table, 512, 5), ("text", s_text, 4000, 16),
     ("text again, equal bytes", s_text, 4000, 40), ("rolls", s_rolls, 700, 1), ("split maps", s_split, 640, 3),
     ("table rewritten", s_rewritten, 900, 3), ("keys in the table", s_keytable, 600, 2),
     ("keys in the pixels", s_keypixels, 1100, 3), ("table in its pixels", s_overlap, 1500, 4),
-    ("shared bytes", s_shared, 900, 4), ("video", s_video, 480, 1), ("resets", s_reset, 300, 1),
+    ("lines over block ends", s_ends, 1300, 3), ("shared bytes", s_shared, 900, 4), ("video", s_video, 480, 1), ("resets", s_reset, 300, 1),
     ("scans", s_scans, 1300, 50), ("refused calls", s_refused, 400, 6), ("mixture", s_mixture, 12000, 4),
 ]
 
 
-KIND = {F: 1, R: 2, W: 3, I: 4, O: 5, S: 6, K: 7, D: 8, X: 9}
-
-
-def group(kind, args):
-    if kind in (D, X):
-        number, value = 0, int(args[0])
-    else:
-        number, value = (list(args) + [0, 0])[:2]
-    return bytes((KIND[kind], number % 256, number // 256, value))
-
-
 def main():
-    out, text = bytearray(), ""
+    run = CallList()
     for rate in (50, 60):
-        reference = Reference(8, 8, rate, [0x80, 0x81, 0x82, 0x83], 0, 0x5B, 0, pattern(131072, 167))
-        boot = BootStream(4)
-        picture = pattern(23040, 59)
-        out += bytes((10, rate, 0, 0))
+        run.power_on(rate)
         seed = 1985
-        for number, (name, f, count, every) in enumerate(SCENES):
-            steps = refused = refreshes = lines = 0
+        for name, f, count, every in SCENES:
             for i in range(count):
                 a = lcg(seed)
                 b = lcg(a)
                 seed = lcg(b)
-                kind, *args = f(i, a >> 16, b >> 16, seed >> 16)
-                out += group(kind, args)
-                steps += 1
-                if reference.refusal(kind, args) or boot.refusal(kind, args):
-                    refused += 1
-                else:
-                    reference.step(kind, args)
+                run.step(*f(i, a >> 16, b >> 16, seed >> 16))
                 if every and i % every == 0:
-                    out += bytes((11, 0, 0, 0))
-                    lines += reference.refresh()
-                    refreshes += 1
-            for k in range(ROUNDS.get(name, 0)):
-                out += bytes((12,) + TRIED[k % 4]) + bytes((13, 0, 0, 0))
-                refused += 2
-            out += bytes((11, 0, 0, 0))
-            lines += reference.refresh()
-            refreshes += 1
-            reference.draw(picture)
-            title = f"{rate} {name}"
-            for byte in title.encode():
-                out += bytes((21, byte, 0, 0))
-            out += bytes((20, number, 0, 0))
-            text += (f"{title}: steps {steps}, refused {refused}, refreshes {refreshes}, lines {lines}, wrong 0, differed 0, "
-                     f"spoilt 0, picture {checksum(picture)}, ram {checksum(reference.ram)}\n")
-    open(sys.argv[1] + "/stdin", "wb").write(out)
-    open(sys.argv[1] + "/stdout", "w").write(text)
+                    run.refresh()
+            run.refused_calls(ROUNDS.get(name, 0))
+            run.end(f"{rate} {name}")
+    run.write(sys.argv[1])
 
 
 main()

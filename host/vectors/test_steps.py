@@ -390,10 +390,19 @@ def scenes():
     ready(60)
     run(POINTERS + """out f1 82; write 4001 01; write 4007 01; write 4008 01; DIRTY; write 42c7 01; write 42c8 01
         DIRTY; write 42c9 01; write 42d0 01; write 7ff8 01; write 4008 02; write 42c8 02; DIRTY""")
-    title("pixels that go on at the block's start, over the table")
+    title("pixels that run on into the next block, row 13 of CP/M")
     ready(50)
     run("""out f0 81; write 003c e0; DIRTY; write 003d 3e; DIRTY; write 3ff8 01; DIRTY; write 0000 07; DIRTY
-        write 0001 07; DIRTY; write 0088 07; DIRTY; write 0090 07; DIRTY""")
+        out f1 82; write 4000 07; DIRTY; write 4001 07; DIRTY; write 4088 07; DIRTY; write 4090 07; DIRTY""")
+    title("pixels that run on into the next block, over the table")
+    ready(50)
+    run("""out f5 40; out f0 82; write 003c e0; write 003d 3e; CLEAN; write 0000 07; DIRTY; write 0001 07; DIRTY
+        write 0088 07; DIRTY; write 0090 07; DIRTY""")
+    title("pixels that run on from block 7 into block 0, and not into block 8")
+    ready(60, 8, 9)
+    run("""out f0 81; write 003c fb; write 003d ff; CLEAN; out f0 80; out f1 87; write 7ff3 01; DIRTY; write 7ffb 01; DIRTY
+        write 7feb 01; DIRTY; write 0003 07; DIRTY; write 02bb 07; DIRTY; write 02c3 07; DIRTY; write 4003 07; DIRTY
+        out f1 88; write 4003 07; DIRTY""")
     for rate in (50, 60):
         title("the table drawn by its own lines")
         ready(rate)

@@ -1,13 +1,15 @@
-// A long list of steps and refreshes on a real RAM and picture, read from standard input. After every refresh the picture
-// is held against a full draw, and the count against the dirty lines before; each scene prints one line. The list and
-// the file stdout were made from document 01.
+// A list of steps and refreshes on a real RAM and picture, read from standard input. After every refresh the picture is
+// held against a full draw, and the count against the dirty lines before; each scene prints one line. The lists of the
+// programs and what they must print were made from documents 01 and 02.
 //
 // The list is groups of four bytes, op a b c. Ops 1 to 9 are a step of that kind, its number a + 256 * b and value c; 10 a
 // power-on at rate a; 11 a refresh; 12 a step of kind a, number b and value c on a RAM one byte short; 13 a refresh of
-// a picture one byte short; 20 the end of a scene; 21 a byte to print.
+// a picture one byte short; 20 the end of a scene; 21 a byte to print; 22 line a of the picture to print.
+ghost use mathlib.Core.Path.{_≡_};
 ghost use Prim.Native.Nat.{_≤_};
 
 mod bytes;
+mod pixels;
 mod tally;
 
 use crate::bytes::fill;
@@ -93,6 +95,10 @@ fn take(
             put(a);
             run
         }
+        22 => {
+            pixels::print_line(picture, a);
+            run
+        }
         _ => tally::go(run, asked(op, a, b, c), ram),
     }
 }
@@ -132,7 +138,10 @@ fn play(ram: &mut [u8], picture: &mut [u8], full: &mut [u8]) {
     }
 }
 
-fn main() {
+// No clause can say what is read or written.
+pub fn run()
+    ensures { λ r. ⌜ r ≡ tt ⌝ }
+{
     let mut ram = [0u8; 131072];
     let mut picture = [0u8; 23040];
     let mut full = [0u8; 23040];

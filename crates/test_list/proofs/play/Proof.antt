@@ -3,8 +3,8 @@ use mathlib.Core.Path.{_≡_, refl}
 use native.Mathlib.Omega.{arith}
 use borrow.Author.Needs.{needs}
 use lib.ListN.{length}
-use Rattle.test_long_run.proofs.play.Statement.{statement}
-use Rattle.test_long_run.proofs.play.Tie as tie
+use Rattle.test_list.proofs.play.Statement.{statement}
+use Rattle.test_list.proofs.play.Tie as tie
 
 abbrev Inv-loop : tie.InvT-loop
 Inv-loop ram₀ picture₀ full₀ r₀ turns₀ ram picture full r turns = (length ram ≡ length ram₀) × ((length picture ≡ length picture₀) × (length full ≡ length full₀))

@@ -3,8 +3,8 @@ use mathlib.Core.Path.{_≡_}
 use Prim.Native.Nat.{_-_}
 use lib.ListN.{length}
 use borrow.Author.Needs.{needs}
-use Rattle.test_long_run.proofs.bytes.fill.Statement.{statement}
-use Rattle.test_long_run.proofs.bytes.fill.Tie as tie
+use Rattle.test_list.proofs.bytes.fill.Statement.{statement}
+use Rattle.test_list.proofs.bytes.fill.Tie as tie
 
 abbrev Inv-loop : tie.InvT-loop
 Inv-loop bytes₀ from first i₀ bytes i = length bytes ≡ length bytes₀

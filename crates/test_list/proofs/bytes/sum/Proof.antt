@@ -2,8 +2,8 @@
 use Prim.Native.Nat.{_-_}
 use lib.ListN.{length}
 use borrow.Author.Needs.{needs}
-use Rattle.test_long_run.proofs.bytes.sum.Statement.{statement}
-use Rattle.test_long_run.proofs.bytes.sum.Tie as tie
+use Rattle.test_list.proofs.bytes.sum.Statement.{statement}
+use Rattle.test_list.proofs.bytes.sum.Tie as tie
 
 abbrev Inv-loop : tie.InvT-loop
 Inv-loop bytes s₀ i₀ s i = Unit {0}
