@@ -83,6 +83,25 @@ static void check_picture(joyce_board *board) {
     check("difference found", joyce_found(reply), 1);
     check("its line", joyce_line(reply), 7);
     check("its pixel", joyce_pixel(reply), 19);
+}
+
+/* Line 9 starts at block 1, 3DC0h: its byte 71 is the block's last of its kind, and byte 72 the first of block 2. */
+static void check_block_end(joyce_board *board) {
+    step(board, JOYCE_OUT, 0xF2, 0x82);
+    step(board, JOYCE_WRITE, 18, 0xE0);
+    step(board, JOYCE_WRITE, 19, 0x3E);
+    step(board, JOYCE_WRITE, 0x4000 + 0x3FF8, 0x71);
+    check("line 9 drawn", joyce_count(joyce_refresh(board, ram, sizeof ram, picture, sizeof picture)), 1);
+    step(board, JOYCE_WRITE, 0x4000, 0x11);
+    check("start of block 1, no line", joyce_found(joyce_next_dirty(board, 0)), 0);
+    step(board, JOYCE_WRITE, 0x8000, 0x72);
+    check("start of block 2, line 9", joyce_line(joyce_next_dirty(board, 0)), 9);
+    check("line 9 alone", joyce_count(joyce_refresh(board, ram, sizeof ram, picture, sizeof picture)), 1);
+    check("its byte 71", picture[9 * JOYCE_LINE + 71], 0x71);
+    check("its byte 72", picture[9 * JOYCE_LINE + 72], 0x72);
+}
+
+static void check_bad_record(joyce_board *board) {
     board->clock.counter = 16;
     check("bad record", joyce_refusal(joyce_draw(board, ram, sizeof ram, other, sizeof other)), JOYCE_BAD_RECORD);
 }
@@ -193,6 +212,8 @@ int main(void) {
     check_power_on(&board);
     check_steps(&board);
     check_picture(&board);
+    check_block_end(&board);
+    check_bad_record(&board);
     check_numbers();
     check_archives();
     printf("%d checks, %d failed\n", checks, failures);

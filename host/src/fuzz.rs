@@ -8,6 +8,7 @@ mod call;
 mod edges;
 mod fill;
 mod generate;
+mod lines;
 mod pair;
 mod rng;
 mod shrink;
@@ -205,6 +206,15 @@ mod fault_tests {
                 }
             }
         }
+    }
+
+    /// Faults of lines show in every pointer drawn, or in stores near the ends of blocks.
+    #[test]
+    fn sweep_finds_faults_of_lines() {
+        for fault in [3, 17, 18, 19] {
+            assert!(lines::every_pointer(&Faulty(fault)).is_err(), "{}", BOARD_FAULTS[fault as usize - 1]);
+        }
+        assert!(lines::block_ends(&Faulty(15)).is_err());
     }
 
     #[test]

@@ -18,5 +18,7 @@ pub mod reply;
 mod standin_archive;
 #[cfg(feature = "standin")]
 mod standin_faults;
+#[cfg(feature = "standin")]
+mod standin_picture;
 
 pub use ffi::Library;

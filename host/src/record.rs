@@ -5,6 +5,8 @@ pub const VERSION: u32 = 1;
 
 /// Bytes in a block of memory.
 pub const BLOCK: usize = 16_384;
+/// Bytes in the standard RAM, blocks 0 to 7: a circle to scan lines, and all that they can show.
+pub const STANDARD_RAM: usize = 8 * BLOCK;
 /// Bytes in a scan line of a picture.
 pub const LINE_BYTES: usize = 90;
 /// Lines in a picture, shown or not.

@@ -4,13 +4,14 @@
 use crate::archive::Fields;
 use crate::machine::{Machine, Model, StepNumbers};
 use crate::model::{self, archive_fast, Access, PowerOn};
-use crate::record::{Board, Lines, BLOCK, ENABLE, LINE_BYTES, PICTURE, REVERSE, ROUTE_NMI};
-use crate::reply::{Answer, Drawn, Pointer, Reply};
+use crate::record::{Board, Lines, BLOCK, LINE_BYTES, ROUTE_NMI};
+use crate::reply::{Answer, Drawn, Reply};
 use crate::standin_archive::FaultyArchives;
 use crate::standin_faults::{Fault, ARCHIVE_FAULTS};
+use crate::standin_picture::{spoil, starting_in_block_of};
 
 /// The faults of the board, numbered from 1; those of archives follow.
-pub const BOARD_FAULTS: [&str; 16] = [
+pub const BOARD_FAULTS: [&str; 19] = [
     "reading F8 clears the counter",
     "lock bits in bank order",
     "pixel bytes follow each other with no gap of eight",
@@ -27,6 +28,9 @@ pub const BOARD_FAULTS: [&str; 16] = [
     "a store into the table makes no line dirty",
     "a pixel byte past the end of the block makes no line dirty",
     "reset keeps boot.at",
+    "a line wraps in its block",
+    "block 7 runs on into block 8",
+    "a line is cut at the end of block 7",
 ];
 
 /// All faults, the first of them number 1.
@@ -64,7 +68,7 @@ impl Machine for Faulty {
     fn draw(&self, board: &Board, ram: &[u8], picture: &mut [u8]) -> Reply {
         let reply = Model.draw(board, ram, picture);
         if reply.refusal() == 0 {
-            self.spoil(board, &board.shown(), ram, picture);
+            spoil(self.0, board, &board.shown(), ram, picture);
         }
         reply
     }
@@ -77,7 +81,7 @@ impl Machine for Faulty {
         if reply.refusal() != 0 {
             return reply;
         }
-        self.spoil(board, &dirty, ram, picture);
+        spoil(self.0, board, &dirty, ram, picture);
         match (self.0, last) {
             (9, _) => Drawn { count: reply.value().min(255), ..reply.into() }.into(),
             (10, Some(line)) => {
@@ -180,8 +184,8 @@ impl Faulty {
             (4, 3) => {
                 let (read, write) = model::blocks(board.sizes, &board.paging, step.number as usize >> 14);
                 if read != write && before.dirty != board.dirty {
-                    let lines = model::touched_lines(&before, ram, read, step.number as u16 & 0x3FFF);
-                    board.dirty = before.dirty.or(&lines);
+                    let at = read as usize * BLOCK + (step.number as usize & 0x3FFF);
+                    board.dirty = before.dirty.or(&model::touched_lines(&before, ram, at));
                 }
             }
             (6, 7) => board.dirty = before.dirty,
@@ -202,56 +206,24 @@ impl Faulty {
         if !before.good() || ram.len() != before.sizes.ram_bytes() {
             return before.dirty;
         }
-        let (block, place) = match step.kind {
-            3 => (
-                model::blocks(before.sizes, &before.paging, step.number as usize >> 14 & 3).1,
-                step.number as u16 & 0x3FFF,
-            ),
-            _ => (3, 0x3FF0 + (step.number as u16 & 15)),
+        let at = match step.kind {
+            3 => {
+                let (_, block) = model::blocks(before.sizes, &before.paging, step.number as usize >> 14 & 3);
+                block as usize * BLOCK + (step.number as usize & 0x3FFF)
+            }
+            _ => 3 * BLOCK + 0x3FF0 + (step.number as usize & 15),
         };
-        let at = block as usize * BLOCK + place as usize;
-        let touched = model::touched_lines(before, ram, block, place);
+        let in_table = at.wrapping_sub(model::table_index(&before.video)) < 512;
+        let touched = model::touched_lines(before, ram, at);
         let added = match self.0 {
             13 => touched,
             _ if ram[at] as u32 == step.value => Lines::default(),
-            14 if at.wrapping_sub(model::table_index(&before.video)) < 512 => Lines::default(),
-            15 => touched.and(&unwrapped(before, ram, place)),
+            14 if in_table => Lines::default(),
+            15 if !in_table => touched.and(&starting_in_block_of(before, ram, at)),
             _ => touched,
         };
         before.dirty.or(&added)
     }
-
-    /// Spoils drawn lines as the fault has it.
-    fn spoil(&self, board: &Board, lines: &Lines, ram: &[u8], picture: &mut [u8]) {
-        debug_assert_eq!(picture.len(), PICTURE);
-        let off = board.video.control & ENABLE == 0;
-        match self.0 {
-            3 if !off => {
-                (0..=255).filter(|&line| lines.has(line)).for_each(|line| without_gaps(board, ram, line, picture))
-            }
-            5 if off => (0..=255).filter(|&line| lines.has(line)).for_each(|line| {
-                let at = line as usize * LINE_BYTES;
-                picture[at..at + LINE_BYTES].fill(0);
-            }),
-            12 if !board.is_50_hz() && lines.has(199) => {
-                let at = 200 * LINE_BYTES;
-                picture.copy_within(at - LINE_BYTES..at, at);
-            }
-            _ => {}
-        }
-    }
-}
-
-/// The lines that reach a place without running over the end of their block.
-fn unwrapped(board: &Board, ram: &[u8], place: u16) -> Lines {
-    (0..=255)
-        .filter(|&line| pointer(board, ram, line).start <= place)
-        .fold(Lines::default(), |lines, line| lines.or(&Lines::single(line)))
-}
-
-fn pointer(board: &Board, ram: &[u8], line: u8) -> Pointer {
-    let entry = model::table_index(&board.video) + 2 * board.video.top.wrapping_add(line) as usize;
-    model::read_pointer(u16::from_le_bytes([ram[entry], ram[entry + 1]]))
 }
 
 fn bank_order_locks(board: &mut Board, step: StepNumbers, ram: &mut [u8], boot: &[u8]) -> Reply {
@@ -265,14 +237,4 @@ fn bank_order_locks(board: &mut Board, step: StepNumbers, ram: &mut [u8], boot: 
     let reply = Model.step(board, step, ram, boot);
     board.paging.lock = lock;
     reply
-}
-
-fn without_gaps(board: &Board, ram: &[u8], line: u8, picture: &mut [u8]) {
-    let pointer = pointer(board, ram, line);
-    let invert = if board.video.control & REVERSE != 0 { 0xFF } else { 0 };
-    let at = line as usize * LINE_BYTES;
-    for (index, byte) in picture[at..at + LINE_BYTES].iter_mut().enumerate() {
-        let place = (pointer.start as usize + index) % BLOCK;
-        *byte = ram[pointer.block as usize * BLOCK + place] ^ invert;
-    }
 }

@@ -53,11 +53,18 @@ fn p6_to_p8_pointers() {
         let (mut board, mut ram) = board(machine, 50, 0, 0);
         ram[..2].copy_from_slice(&0x3EE0u16.to_le_bytes());
         ram[BLOCK + 0x3FF8] = 71;
-        ram[BLOCK] = 72;
+        ram[2 * BLOCK] = 72;
         let mut picture = vec![0; PICTURE];
         machine.step(&mut board, StepNumbers::port_out(0xF7, 0x40), &mut ram, &[]);
         assert_eq!(machine.draw(&board, &ram, &mut picture).0, 0);
         assert_eq!(picture[71..73], [71, 72]);
+        // Block 2 at 8000h in place of block 4: line 0 has a byte at its start, and none at the start of block 1.
+        machine.step(&mut board, StepNumbers::port_out(0xF2, 0x82), &mut ram, &[]);
+        for (address, dirty) in [(0x8000, Lines::single(0)), (0x4000, Lines::default())] {
+            board.dirty = Lines::default();
+            machine.step(&mut board, StepNumbers::write(address, 1), &mut ram, &[]);
+            assert_eq!(board.dirty, dirty);
+        }
     });
 }
 

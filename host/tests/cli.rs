@@ -47,6 +47,7 @@ fn demo_writes_a_picture_and_counts_lines() {
     let text = said(&output);
     for line in [
         "put up: 256 lines, 23040 bytes",
+        "row 13 runs from block 1, 3DC0h, on into block 2: columns 72 to 89 read \" 181.28   561.13  \"",
         "enters a line: 8 lines, 720 bytes down the cable, 22320 saved",
         "300 ticks counted: 0 lines",
         "rolls up by 8 lines: 256 lines",

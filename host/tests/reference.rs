@@ -6,6 +6,7 @@ use joyce::machine::{Machine, Model, StepNumbers};
 use joyce::model::PowerOn;
 use joyce::record::{Board, Sizes, BLOCK, PICTURE};
 use joyce::Library;
+use std::ops::Range;
 
 /// Sizes, rate, F0 to F7, a RAM of its own and which lines are dirty (document 01: marked).
 struct Reference {
@@ -15,6 +16,14 @@ struct Reference {
     f: [u8; 8],
     ram: Vec<u8>,
     dirty: [bool; 256],
+    run_on: RunOn,
+}
+
+/// How often an altered byte was one of a line that started in the block before, and of one from block 7 in block 0.
+#[derive(Clone, Copy, Default, Debug)]
+struct RunOn {
+    next_block: u32,
+    block_0: u32,
 }
 
 /// A line's pointer word and where its 90 bytes lie.
@@ -24,7 +33,7 @@ fn line_bytes(f: &[u8; 8], ram: &[u8], line: usize) -> (u16, Vec<usize>) {
     let w = ram[entry] as usize + 256 * ram[entry + 1] as usize;
     let (block, v) = (w / 8_192, w % 8_192);
     let start = 16 * (v / 8) + v % 8;
-    (w as u16, (0..90).map(|i| block * BLOCK + (start + 8 * i) % 16_384).collect())
+    (w as u16, (0..90).map(|i| (block * BLOCK + start + 8 * i) % 131_072).collect())
 }
 
 impl Reference {
@@ -66,11 +75,16 @@ impl Reference {
         for line in 0..self.shown {
             let (word, bytes) = line_bytes(&before, &before_ram, line);
             let (new_word, _) = line_bytes(&self.f, &self.ram, line);
+            let altered = bytes.iter().find(|&&at| before_ram[at] != self.ram[at]);
+            if let Some(at) = altered {
+                self.run_on.next_block += (at / BLOCK == bytes[0] / BLOCK + 1) as u32;
+                self.run_on.block_0 += (at / BLOCK == 0 && bytes[0] / BLOCK == 7) as u32;
+            }
             self.dirty[line] |= before[5] != self.f[5]
                 || before[6] != self.f[6]
                 || (before[7] ^ self.f[7]) & 0xC0 != 0
                 || word != new_word
-                || bytes.iter().any(|&at| before_ram[at] != self.ram[at]);
+                || altered.is_some();
         }
     }
 
@@ -89,13 +103,19 @@ impl Reference {
     }
 }
 
+/// The address of an index, by a bank that is mapped to its block for writing if there is one.
+fn address_of(reference: &Reference, at: usize, other_bank: usize) -> u16 {
+    let bank = (0..4).find(|&bank| reference.write_block(bank) == at / BLOCK).unwrap_or(other_bank);
+    (bank * BLOCK + at % BLOCK) as u16
+}
+
 fn random_step(rng: &mut Rng, reference: &Reference) -> StepNumbers {
     let (a, b, c) = (rng.byte(), rng.byte(), rng.byte());
     let line = line_bytes(&reference.f, &reference.ram, a as usize).1;
-    let near = line[b as usize % 90] % BLOCK + BLOCK * (c as usize % 4);
+    let near = address_of(reference, line[b as usize % 90], c as usize % 4);
     let table = 512 * (reference.f[5] as usize % 32) + 2 * a as usize + BLOCK * (c as usize % 4);
     match rng.below(14) {
-        0..=3 => StepNumbers::write(near as u16, b & 3),
+        0..=3 => StepNumbers::write(near, b & 3),
         4..=5 => StepNumbers::write(table as u16, b),
         6 => StepNumbers::write(a as u16 * 256 + b as u16, c),
         7 => StepNumbers::keyboard(a % 17, b),
@@ -114,18 +134,20 @@ fn random_step(rng: &mut Rng, reference: &Reference) -> StepNumbers {
     }
 }
 
-fn run_list(machine: &dyn Machine, seed: u64, calls: usize) {
-    let mut rng = Rng::new(seed);
-    let rate = rng.pick(&[50, 60]);
-    let shown = if rate == 50 { 256 } else { 200 };
-    let mut ram = vec![0; 8 * BLOCK];
+/// A reference and a board just powered on. `ends` has every line start near the end of a block, many of them of block 7.
+fn powered_on(machine: &dyn Machine, rng: &mut Rng, ends: bool) -> (Reference, Board) {
+    let (rate, total) = (rng.pick(&[50, 60]), rng.pick(&[8, 9]));
+    let mut ram = vec![0; total as usize * BLOCK];
     rng.fill(&mut ram);
-    let mut picture = vec![0; PICTURE];
-    rng.fill(&mut picture);
-    let start = picture.clone();
-    let f = [rng.byte(), rng.byte(), rng.byte(), rng.byte(), rng.byte(), rng.pick(&[0x7F, 0x5B]), rng.byte(), 0];
+    let mut f = [rng.byte(), rng.byte(), rng.byte(), rng.byte(), rng.byte(), rng.pick(&[0x7F, 0x5B]), rng.byte(), 0];
+    if ends {
+        // Block 0, where lines from block 7 run on, can be written at once.
+        f[0] = 0x80;
+        let table = &mut ram[f[5] as usize * 512..][..512];
+        table.chunks_exact_mut(2).for_each(|word| word[1] |= rng.pick(&[0x1E, 0x1E, 0xFE]));
+    }
     let on = PowerOn {
-        sizes: Sizes { internal: 8, total: 8 },
+        sizes: Sizes { internal: 8, total },
         rate,
         maps: [f[0], f[1], f[2], f[3]],
         lock: f[4],
@@ -134,13 +156,23 @@ fn run_list(machine: &dyn Machine, seed: u64, calls: usize) {
     };
     let mut board = Board::default();
     assert_eq!(machine.power_on(&mut board, &on).refusal(), 0);
+    let shown = if rate == 50 { 256 } else { 200 };
     let dirty = std::array::from_fn(|line| line < shown);
-    let mut reference = Reference { internal: 8, total: 8, shown, f, ram: ram.clone(), dirty };
+    (Reference { internal: 8, total: total as usize, shown, f, ram, dirty, run_on: RunOn::default() }, board)
+}
+
+fn run_list(machine: &dyn Machine, seed: u64, calls: usize) -> RunOn {
+    let mut rng = Rng::new(seed);
+    let (mut reference, mut board) = powered_on(machine, &mut rng, seed % 2 == 1);
+    let (shown, mut ram) = (reference.shown, reference.ram.clone());
+    let mut picture = vec![0; PICTURE];
+    rng.fill(&mut picture);
+    let start = picture.clone();
     for call in 0..calls {
         if rng.once_in(6) {
             let (ram_len, picture_len) = (ram.len() - rng.once_in(9) as usize, PICTURE - rng.once_in(9) as usize);
             let reply = machine.refresh(&mut board, &ram[..ram_len], &mut picture[..picture_len]);
-            if (ram_len, picture_len) == (8 * BLOCK, PICTURE) {
+            if (ram_len, picture_len) == (ram.len(), PICTURE) {
                 let (count, lines) = reference.refresh();
                 assert_eq!((reply.refusal(), reply.value()), (0, count), "seed {seed}, call {call}");
                 assert_eq!(picture[..lines.len()], lines, "seed {seed}, call {call}");
@@ -166,16 +198,26 @@ fn run_list(machine: &dyn Machine, seed: u64, calls: usize) {
         assert_eq!(dirty, reference.dirty, "seed {seed}, call {call}");
         assert!(picture[shown * 90..] == start[shown * 90..], "seed {seed}, call {call}: unshown lines");
     }
+    reference.run_on
+}
+
+/// Runs lists; stores past the ends of blocks must have been among them.
+fn run_lists(machine: &dyn Machine, seeds: Range<u64>) {
+    let run_on: Vec<RunOn> = seeds.map(|seed| run_list(machine, seed, 150)).collect();
+    let next_block: u32 = run_on.iter().map(|met| met.next_block).sum();
+    let block_0: u32 = run_on.iter().map(|met| met.block_0).sum();
+    println!("lines run on: {next_block} into the next block, {block_0} into block 0");
+    assert!(next_block > 50 && block_0 > 50);
 }
 
 #[test]
 fn the_model_keeps_to_the_reference() {
-    (0..12).for_each(|seed| run_list(&Model, seed, 150));
+    run_lists(&Model, 0..48);
 }
 
 #[test]
 fn the_library_keeps_to_the_reference() {
-    (100..112).for_each(|seed| run_list(&Library, seed, 150));
+    run_lists(&Library, 100..148);
 }
 
 /// Ticks landed = counts read + the counter now + ticks lost at 15 + counts that a reset threw away.

@@ -73,6 +73,8 @@ pub enum Fill {
     Overlap,
     /// Few different pointers, so that many lines share their bytes.
     Shared,
+    /// Lines that start near the end of a block, many of them of block 7.
+    Ends,
 }
 
 /// What a list of calls starts from.

@@ -5,6 +5,21 @@ use super::rng::Rng;
 use crate::model;
 use crate::record::BLOCK;
 
+/// What lists start from; some fills come more often.
+pub const FILLS: [Fill; 9] = [
+    Fill::Random,
+    Fill::Random,
+    Fill::Standard,
+    Fill::Overlap,
+    Fill::Overlap,
+    Fill::Shared,
+    Fill::Ends,
+    Fill::Ends,
+    Fill::Zero,
+];
+/// F5 of the tables that the fill `Ends` lays: those that lists turn to, and one that lines from block 7 run on over.
+pub const ENDS_TABLES: [u8; 4] = [0x00, 0x5B, 0x60, 0x7F];
+
 pub fn filled_ram(setup: &Setup, rng: &mut Rng) -> Vec<u8> {
     let mut ram = vec![0; setup.ram_bytes() + RAM_MARGIN];
     if setup.fill != Fill::Zero {
@@ -20,6 +35,12 @@ pub fn filled_ram(setup: &Setup, rng: &mut Rng) -> Vec<u8> {
             let few: Vec<u16> = (0..5).map(|_| rng.word() as u16).collect();
             (0..256).for_each(|table| lay_table(&mut ram, table * 512, |_| rng.pick(&few)));
         }
+        Fill::Ends => ENDS_TABLES.iter().for_each(|&table| {
+            lay_table(&mut ram, table as usize * 512, |_| {
+                let block = if rng.once_in(3) { 7 } else { rng.below(8) as u32 };
+                model::make_pointer(block, 0x3D00 + (rng.below(0x300) as u32 & !8)).word
+            })
+        }),
         Fill::Zero | Fill::Random => {}
     }
     ram

@@ -1,12 +1,13 @@
 //! Makes up the next call of a list, looking at the model's state to aim at what matters.
 
 use super::call::{Call, Fill, Setup, PICTURE_ROOM, RAM_MARGIN};
+use super::fill::{ENDS_TABLES, FILLS};
 use super::pair::Pair;
 use super::rng::Rng;
 use super::unusual;
 use crate::machine::StepNumbers;
 use crate::model::{self, Access, PowerOn};
-use crate::record::{Board, Paging, Sizes, BLOCK, LINE_BYTES, PICTURE};
+use crate::record::{Board, Paging, Sizes, BLOCK, LINE_BYTES, PICTURE, STANDARD_RAM};
 use std::collections::VecDeque;
 
 pub struct Generator {
@@ -125,12 +126,12 @@ impl Generator {
         }
         let entry = model::table_index(&board.video) + 2 * self.rng.below(256) as usize;
         let pointer = model::read_pointer(u16::from_le_bytes([ram[entry], ram[entry + 1]]));
-        // The bytes just before and just behind a line are tried too.
-        let any = self.rng.below(92);
-        let index = self.rng.pick(&[0, 1, 71, 72, 88, 89, 90, 2_047, any, any, any, any]) as usize;
+        let start = pointer.block as usize * BLOCK + pointer.start as usize;
+        // The bytes just before and just behind a line are tried too, and those on both sides of its block's end.
+        let (any, past) = (self.rng.below(92), ((BLOCK as u64 - pointer.start as u64 + 7) / 8).min(90));
+        let i = self.rng.pick(&[0, 1, 71, 72, 88, 89, 90, 16_383, past - 1, past, any, any, any, any]) as usize;
         let stray = if self.rng.once_in(8) { self.rng.below(8) as usize } else { 0 };
-        let place = (pointer.start as usize + 8 * index + stray) % BLOCK;
-        let at = pointer.block as usize * BLOCK + place;
+        let at = (start + 8 * i + stray) % STANDARD_RAM;
         let value = self.value_near(ram[at]);
         self.store_at(board, at, value)
     }
@@ -229,6 +230,7 @@ impl Generator {
         let (table, top) = match self.setup.fill {
             Fill::Standard => (0x5B, 0),
             Fill::Overlap => (0x7F, self.rng.byte()),
+            Fill::Ends => (self.rng.pick(&ENDS_TABLES), self.rng.byte()),
             _ => (self.rng.byte(), self.rng.byte()),
         };
         PowerOn {
@@ -285,7 +287,5 @@ fn random_setup(rng: &mut Rng) -> Setup {
         9..=12 => 9,
         _ => 8,
     };
-    let fill =
-        rng.pick(&[Fill::Random, Fill::Random, Fill::Standard, Fill::Overlap, Fill::Overlap, Fill::Shared, Fill::Zero]);
-    Setup { blocks, fill, seed: rng.word() }
+    Setup { blocks, fill: rng.pick(&FILLS), seed: rng.word() }
 }

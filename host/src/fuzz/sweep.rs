@@ -1,6 +1,6 @@
 //! Small domains from end to end: every pointer, every roll, every size, every port and value.
 
-use super::edges;
+use super::{edges, lines};
 use crate::machine::{Machine, Model, StepNumbers};
 use crate::model::{self, Access, PowerOn};
 use crate::record::{Board, Lines, Paging, Sizes, BLOCK};
@@ -16,6 +16,8 @@ pub fn sweep(library: &dyn Machine) -> Result<u64, String> {
         reaches,
         ports,
         next_dirty_lines,
+        lines::every_pointer,
+        lines::block_ends,
         edges::damaged_fields,
         edges::lengths,
         edges::numbers,

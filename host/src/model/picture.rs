@@ -1,9 +1,11 @@
 //! Scan lines: where their bytes lie, how they are drawn, and which lines a store touches.
 
-use super::pure::read_pointer;
 use super::{BAD_LENGTH, BAD_RECORD};
-use crate::record::{Board, Lines, Video, BLOCK, ENABLE, LINE_BYTES, PICTURE, REVERSE};
+use crate::record::{Board, Lines, Video, BLOCK, ENABLE, LINE_BYTES, PICTURE, REVERSE, STANDARD_RAM};
 use crate::reply::Drawn;
+
+/// From the first byte of a line to behind its last, a byte in eight.
+const SPAN: usize = 8 * (LINE_BYTES - 1) + 1;
 
 /// The index of the pointer table in the RAM.
 pub(crate) fn table_index(video: &Video) -> usize {
@@ -21,14 +23,18 @@ fn pointer(video: &Video, table: &[u8; 512], line: u8) -> u16 {
     u16::from_le_bytes([table[entry], table[entry + 1]])
 }
 
+/// The index of a line's first byte. The block is the word's top bits, so it needs no part of its own.
+fn line_index(word: u16) -> usize {
+    16 * (word as usize / 8) + word as usize % 8
+}
+
 /// The shown lines that one altered byte touches, by their pointers before the store:
 /// as one of their 90 bytes, or as part of their pointer.
-pub(crate) fn touched_lines(board: &Board, ram: &[u8], block: u8, place: u16) -> Lines {
-    if block > 7 {
+pub(crate) fn touched_lines(board: &Board, ram: &[u8], at: usize) -> Lines {
+    if at >= STANDARD_RAM {
         return Lines::default();
     }
-    let mut entries = entries_showing(table(&board.video, ram), block, place);
-    let at = block as usize * BLOCK + place as usize;
+    let mut entries = entries_showing(table(&board.video, ram), at);
     let into_table = at.wrapping_sub(table_index(&board.video));
     if into_table < 512 {
         entries = entries.or(&Lines::single((into_table / 2) as u8));
@@ -36,16 +42,16 @@ pub(crate) fn touched_lines(board: &Board, ram: &[u8], block: u8, place: u16) ->
     entries.rolled_down(board.video.top).and(&board.shown())
 }
 
-/// The entries whose line has a byte at the place. Eight places in a row are of eight lines,
-/// so the low three bits must agree, and the rest is a distance of under 90 groups of eight.
-fn entries_showing(table: &[u8; 512], block: u8, place: u16) -> Lines {
-    let fixed = (block as u16) << 13 | (place & 7);
-    let group = place >> 3;
+/// The entries whose line has a byte at an index of the standard RAM. Eight bytes in a row are of eight lines, so
+/// the low three bits must agree; the rest is a distance round the circle of under 90 groups of eight.
+fn entries_showing(table: &[u8; 512], at: usize) -> Lines {
+    const GROUPS: u16 = (STANDARD_RAM / 8) as u16;
+    let (group, low) = ((at / 8) as u16, (at % 8) as u16);
     let mut hits = [0u8; 256];
     for (hit, entry) in hits.iter_mut().zip(table.chunks_exact(2)) {
         let word = u16::from_le_bytes([entry[0], entry[1]]);
-        let distance = group.wrapping_sub(word >> 2 & 0x7FE) & 0x7FF;
-        *hit = ((word & 0xE007 == fixed) & (distance < LINE_BYTES as u16)) as u8;
+        let distance = group.wrapping_sub(2 * (word / 8)) % GROUPS;
+        *hit = ((word % 8 == low) & (distance < LINE_BYTES as u16)) as u8;
     }
     packed(&hits)
 }
@@ -68,11 +74,18 @@ fn draw_line(video: &Video, ram: &[u8], line: u8, out: &mut [u8; LINE_BYTES]) {
         out.fill(invert);
         return;
     }
-    let pointer = read_pointer(pointer(video, table(video, ram), line));
-    let at = pointer.block as usize * BLOCK;
-    let block: &[u8; BLOCK] = ram[at..at + BLOCK].try_into().expect("a block");
-    for (index, byte) in out.iter_mut().enumerate() {
-        *byte = block[(pointer.start as usize + 8 * index) % BLOCK] ^ invert;
+    let at = line_index(pointer(video, table(video, ram), line));
+    if at + SPAN <= STANDARD_RAM {
+        let from: &[u8; SPAN] = ram[at..at + SPAN].try_into().expect("a line");
+        for (i, byte) in out.iter_mut().enumerate() {
+            *byte = from[8 * i] ^ invert;
+        }
+    } else {
+        // From the end of block 7 it runs on into block 0.
+        let circle: &[u8; STANDARD_RAM] = ram[..STANDARD_RAM].try_into().expect("eight blocks");
+        for (i, byte) in out.iter_mut().enumerate() {
+            *byte = circle[(at + 8 * i) % STANDARD_RAM] ^ invert;
+        }
     }
 }
 

@@ -155,7 +155,7 @@ fn read(board: &Board, address: u16, ram: &[u8]) -> u8 {
 fn store(board: &mut Board, ram: &mut [u8], block: u8, place: u16, value: u8) -> Effect {
     let at = block as usize * BLOCK + place as usize;
     if ram[at] != value {
-        let touched = touched_lines(board, ram, block, place);
+        let touched = touched_lines(board, ram, at);
         board.dirty = board.dirty.or(&touched);
         ram[at] = value;
     }

@@ -1,7 +1,7 @@
 //! The bench cases, the refusals in their order, and the dirty lines.
 
 use super::*;
-use crate::record::{Lines, BLOCK, PICTURE};
+use crate::record::{Lines, BLOCK, PICTURE, STANDARD_RAM};
 use crate::reply::{Drawn, Pointer, Reach};
 
 fn on(internal: u8, total: u8, rate: u8) -> PowerOn {
@@ -61,20 +61,54 @@ fn p6_and_p7_pointers() {
 }
 
 #[test]
-fn p8_a_line_wraps_in_its_block() {
+fn p8_a_line_runs_on_into_the_next_block() {
     let (mut board, mut ram) = board(50);
     board.video = Video { table: 0, top: 0, control: 0x40 };
     let pointer = read_pointer(0x3EE0);
     assert_eq!((pointer.block, pointer.start + 8 * 71), (1, 0x3FF8));
     ram[..2].copy_from_slice(&0x3EE0u16.to_le_bytes());
     ram[BLOCK + 0x3FF8] = 0x71;
-    ram[BLOCK] = 0x72;
+    ram[2 * BLOCK] = 0x72;
     let mut picture = vec![0; PICTURE];
     assert_eq!(draw(&board, &ram, &mut picture), Drawn::default());
     assert_eq!(picture[71..73], [0x71, 0x72]);
+    // Line 0 has a byte at the start of block 2, and none at the start of block 1.
+    for (address, dirty) in [(0x8000, Lines::single(0)), (0x4000, Lines::default())] {
+        board.dirty = Lines::default();
+        step(&mut board, Step::Write { address, value: 1 }, &mut ram, &[]);
+        assert_eq!(board.dirty, dirty);
+    }
+}
+
+/// Every byte of a line from the end of block 7: 72 of them there, 18 in block 0, none in a block 8.
+#[test]
+fn block_7_runs_on_into_block_0() {
+    let (mut board, _) = power_on(&on(8, 9, 50));
+    board.boot.mode = 0;
+    board.paging.maps = [0x80, 0x87, 0x88, 0x81];
+    // Table at block 1, 0000h, all of its other lines from block 1, 0000h, too.
+    board.video = Video { table: 0x20, top: 0, control: 0x40 };
+    let mut ram = vec![0; 9 * BLOCK];
+    (0..512).step_by(2).for_each(|at| ram[BLOCK + at..][..2].copy_from_slice(&0x2000u16.to_le_bytes()));
+    ram[BLOCK..][..2].copy_from_slice(&make_pointer(7, 0x3DC5).word.to_le_bytes());
+    ram[8 * BLOCK..].fill(0xEE);
+    let mut picture = vec![0; PICTURE];
+    for i in 0..90u16 {
+        let address = if i < 72 { 0x4000 + 0x3DC5 + 8 * i } else { 8 * (i - 72) + 5 };
+        board.dirty = Lines::default();
+        step(&mut board, Step::Write { address, value: i as u8 + 1 }, &mut ram, &[]);
+        assert_eq!(board.dirty, Lines::single(0), "byte {i}");
+    }
+    draw(&board, &ram, &mut picture);
+    assert!((1..=90).eq(picture[..90].iter().copied()));
     board.dirty = Lines::default();
-    step(&mut board, Step::Write { address: 0x4000, value: 1 }, &mut ram, &[]);
-    assert!(board.dirty.has(0));
+    // Block 8 from end to end, and the bytes of block 0 behind the line and beside it.
+    for address in (0x8000..=0xBFFF).chain(8 * 18..8 * 20).chain(0..5) {
+        step(&mut board, Step::Write { address, value: 0x77 }, &mut ram, &[]);
+        assert_eq!(board.dirty, Lines::default(), "{address:04X}h");
+    }
+    draw(&board, &ram, &mut picture);
+    assert!((1..=90).eq(picture[..90].iter().copied()));
 }
 
 #[test]
@@ -195,24 +229,36 @@ fn stores_make_dirty_what_the_rule_says() {
     for (index, byte) in ram.iter_mut().enumerate() {
         *byte = (index * 7 + index / 256) as u8 & 0x6F;
     }
-    let bytes_of = |board: &Board, ram: &[u8], line: u8| -> (u16, Vec<usize>) {
-        let entry = table_index(&board.video) + 2 * board.video.top.wrapping_add(line) as usize;
-        let word = u16::from_le_bytes([ram[entry], ram[entry + 1]]);
-        let Pointer { block, start } = read_pointer(word);
-        (word, (0..90).map(|i| block as usize * BLOCK + (start as usize + 8 * i) % BLOCK).collect())
-    };
-    for round in 0..400u32 {
+    // Half of the lines start near the end of a block, and are there to run on.
+    for entry in (0..256).step_by(2) {
+        let word = make_pointer([0, 1, 2, 7][entry / 2 % 4], (0x3D00 + entry as u32 * 3) & !8).word;
+        ram[table_index(&board.video) + 2 * entry..][..2].copy_from_slice(&word.to_le_bytes());
+    }
+    let mut run_on = 0;
+    for round in 0..600u32 {
         board.dirty = Lines::default();
         let (before, before_ram) = (board, ram.clone());
-        let next = match round % 2 {
-            0 => Step::Keyboard { offset: (round / 2 % 16) as u8, value: round as u8 },
-            _ => Step::Write { address: (round * 167) as u16, value: round as u8 },
+        let next = match round % 3 {
+            0 => Step::Keyboard { offset: (round / 3 % 16) as u8, value: round as u8 },
+            1 => Step::Write { address: (round * 167) as u16, value: round as u8 },
+            _ => Step::Write { address: (round % 4 * 0x4000 + round * 7 % 0x2C0) as u16, value: round as u8 },
         };
         step(&mut board, next, &mut ram, &[]);
         for line in 0..=255 {
             let (word, bytes) = bytes_of(&before, &before_ram, line);
-            let differs = word != bytes_of(&before, &ram, line).0 || bytes.iter().any(|&at| ram[at] != before_ram[at]);
+            let altered = bytes.iter().find(|&&at| ram[at] != before_ram[at]);
+            let differs = word != bytes_of(&before, &ram, line).0 || altered.is_some();
             assert_eq!(board.dirty.has(line), line < 200 && differs, "line {line} after {next:?}");
+            run_on += altered.map_or(0, |at| (at / BLOCK != bytes[0] / BLOCK) as u32);
         }
     }
+    assert!(run_on > 300, "{run_on}");
+}
+
+/// A line's pointer word and the indexes of its bytes.
+fn bytes_of(board: &Board, ram: &[u8], line: u8) -> (u16, Vec<usize>) {
+    let entry = table_index(&board.video) + 2 * board.video.top.wrapping_add(line) as usize;
+    let word = u16::from_le_bytes([ram[entry], ram[entry + 1]]);
+    let Pointer { block, start } = read_pointer(word);
+    (word, (0..90).map(|i| (block as usize * BLOCK + start as usize + 8 * i) % STANDARD_RAM).collect())
 }

@@ -36,18 +36,23 @@ fn fixture(total: u8) -> Fixture {
         top: 0,
     };
     let mut ram: Vec<u8> = (0..total as usize * BLOCK).map(|at| ((at * 31) >> 3) as u8).collect();
-    for entry in 0..256u32 {
-        let at = 0x1930 + entry / 8 * 720;
-        let word = Model.make_pointer(1 + at / BLOCK as u32, at % BLOCK as u32 + entry % 8).value();
-        let index = 2 * BLOCK + 0x3600 + 2 * entry as usize;
-        ram[index..index + 2].copy_from_slice(&word.to_le_bytes());
-    }
+    lay_table(&mut ram, |line| BLOCK + 0x1930 + line / 8 * 720 + line % 8);
     let mut fixture = Fixture { board: Board::default(), ram, picture: vec![0; PICTURE], boot: vec![0x5A; 1_024] };
     Model.power_on(&mut fixture.board, &on);
     fixture.board.boot.mode = 0;
     fixture.board.video.control = 0x40;
     fixture.board.dirty = Lines::default();
     fixture
+}
+
+/// Lays the pointer table at block 2, 3600h, from the index that each line starts at.
+fn lay_table(ram: &mut [u8], start: impl Fn(usize) -> usize) {
+    for line in 0..256 {
+        let at = start(line);
+        let word = Model.make_pointer((at / BLOCK) as u32, (at % BLOCK) as u32).value();
+        let entry = 2 * BLOCK + 0x3600 + 2 * line;
+        ram[entry..entry + 2].copy_from_slice(&word.to_le_bytes());
+    }
 }
 
 /// How often the whole table is gone through. What else the machine does for a while meets a row once or twice, not every time.
@@ -178,6 +183,9 @@ fn stores(bench: &Bench) -> Result<(), String> {
     let unaltered = fixture.ram[BLOCK + 0x1930];
     bench.step("data write, alters nothing", &fixture, |_| StepNumbers::write(0x5930, unaltered))?;
     bench.step("data write, alters a shown byte", &fixture, |turn| StepNumbers::write(0x5930, turn as u8))?;
+    // The first byte of block 2 is of row 13, which starts in block 1.
+    bench
+        .step("data write, a shown byte past a block's end", &fixture, |turn| StepNumbers::write(0x8000, turn as u8))?;
     bench.step("data write, alters a byte no line shows", &fixture, |turn| StepNumbers::write(0x0000, turn as u8))?;
     bench.step("data write, alters a byte past block 7", &fixture, |turn| StepNumbers::write(0xC000, turn as u8))?;
     bench.step("data write, alters a pointer", &fixture, |turn| StepNumbers::write(0xB600, turn as u8))?;
@@ -188,6 +196,11 @@ fn stores(bench: &Bench) -> Result<(), String> {
 fn pictures(bench: &Bench) -> Result<(), String> {
     let fixture = fixture(8);
     let full = bench.row("draw", &fixture, |machine, fixture, _| {
+        keep(machine.draw(&fixture.board, &fixture.ram, &mut fixture.picture));
+    })?;
+    let mut ends = fixture.clone();
+    lay_table(&mut ends.ram, |line| 7 * BLOCK + 0x3E00 + line / 8 * 16 + line % 8);
+    bench.row("draw, every line from the end of block 7", &ends, |machine, fixture, _| {
         keep(machine.draw(&fixture.board, &fixture.ram, &mut fixture.picture));
     })?;
     for dirty in [0, 1, 16, 256] {

@@ -2,7 +2,7 @@
 
 use super::archive::Kept;
 use super::args::Args;
-use super::screen::Screen;
+use super::screen::{row_place, Screen, COLUMNS, COLUMN_ACROSS, ROW_ACROSS};
 use super::{files, ledger, out, pbm, preview};
 use joyce::archive::Fields;
 use joyce::machine::{Machine, StepNumbers};
@@ -24,6 +24,7 @@ pub fn run(machine: &dyn Machine, arguments: &[String]) -> Result<(), String> {
 
     write_page(&mut screen)?;
     report(&mut screen, "the page is put up")?;
+    look_across(&screen)?;
     enter_line(&mut screen)?;
     report(&mut screen, "the clerk enters a line")?;
     let entered = screen.picture.clone();
@@ -80,6 +81,18 @@ fn write_page(screen: &mut Screen) -> Result<(), String> {
     page.iter().enumerate().try_for_each(|(row, text)| screen.row(row, text))
 }
 
+/// Looks in the picture at the row that runs over the end of a block: what is past it must be there, and whole.
+fn look_across(screen: &Screen) -> Result<(), String> {
+    let (block, place) = row_place(ROW_ACROSS);
+    let row = format!("{:<COLUMNS$}", ledger::page()[ROW_ACROSS]);
+    let (end, last) = (&row[COLUMN_ACROSS..], COLUMNS - 1);
+    let across = format!("row {ROW_ACROSS} runs from block {block}, {place:04X}h, on into block {}", block + 1);
+    if !screen.shows(ROW_ACROSS, COLUMN_ACROSS, end) {
+        return Err(format!("{across}, but columns {COLUMN_ACROSS} to {last} of the picture do not read \"{end}\""));
+    }
+    out::line(&format!("{across}: columns {COLUMN_ACROSS} to {last} read \"{end}\""))
+}
+
 fn enter_line(screen: &mut Screen) -> Result<(), String> {
     let (row, text) = ledger::entered();
     screen.row(row, &text)
@@ -124,4 +137,22 @@ fn report(screen: &mut Screen, what: &str) -> Result<(), String> {
     let aside = if floating { " (the video is floating)" } else { "" };
     let saved = PICTURE - sent;
     out::line(&format!("{what}: {count} lines, {sent} bytes down the cable, {saved} saved of {PICTURE}{aside}"))
+}
+
+#[cfg(all(test, feature = "standin"))]
+mod tests {
+    use super::*;
+    use joyce::ffi::{Faulty, BOARD_FAULTS};
+
+    #[test]
+    fn a_line_that_wraps_in_its_block_is_seen() {
+        assert_eq!(BOARD_FAULTS[17 - 1], "a line wraps in its block");
+        for (fault, whole) in [(0, true), (17, false)] {
+            let machine = Faulty(fault);
+            let mut screen = Screen::start(&machine).expect("a screen");
+            write_page(&mut screen).expect("a page");
+            screen.refresh().expect("a picture");
+            assert_eq!(look_across(&screen).is_ok(), whole);
+        }
+    }
 }

@@ -84,10 +84,20 @@ pub fn entered() -> (usize, String) {
 
 #[cfg(test)]
 mod tests {
+    use super::super::screen::{COLUMNS, COLUMN_ACROSS, ROWS, ROW_ACROSS};
+
     #[test]
     fn the_page_fits_the_screen() {
         let rows = super::page();
-        assert_eq!(rows.len(), super::super::screen::ROWS);
-        assert!(rows.iter().chain([&super::entered().1]).all(|row| row.len() <= super::super::screen::COLUMNS));
+        assert_eq!(rows.len(), ROWS);
+        assert!(rows.iter().chain([&super::entered().1]).all(|row| row.len() <= COLUMNS));
+    }
+
+    /// The demo looks at what this row has on the far side of a block's end.
+    #[test]
+    fn the_row_across_two_blocks_has_text_in_both() {
+        let rows = super::page();
+        let (before, past) = rows[ROW_ACROSS].split_at(COLUMN_ACROSS);
+        assert!(!before.trim().is_empty() && !past.trim().is_empty());
     }
 }

@@ -1,20 +1,22 @@
 //! Writes text on a board's screen through the board's own steps.
 //!
-//! Rows of 90 cells follow each other as the standard software lays them: 13 from block 1, 1930h,
-//! the rest from block 2 on, where the pointer table stands at 3600h. The one row that would run
-//! over the end of block 1 starts at block 2 instead.
+//! The screen is that of standard CP/M: 32 rows of 90 cells that follow each other without a gap, from block 1, 1930h, to
+//! block 2, 332Fh, and the pointer table in block 2 at 3600h. Row 13 runs over the end of block 1, from column 72 on.
 
 use super::font::Font;
 use joyce::machine::{Machine, StepNumbers};
 use joyce::model::PowerOn;
-use joyce::record::{Board, Sizes, BLOCK, PICTURE};
+use joyce::record::{Board, Sizes, BLOCK, LINE_BYTES, PICTURE};
 use joyce::reply::{Answer, Drawn, MadePointer};
 
 pub const COLUMNS: usize = 90;
 pub const ROWS: usize = 32;
-const ROW_BYTES: u32 = 720;
-const FIRST_ROW: u32 = 0x1930;
-const ROWS_IN_BLOCK_1: u32 = 13;
+/// The row that starts in block 1 and ends in block 2, and the first of its columns that is in block 2.
+pub const ROW_ACROSS: usize = 13;
+pub const COLUMN_ACROSS: usize = 72;
+const ROW_BYTES: usize = 8 * COLUMNS;
+/// The index of block 1, 1930h.
+const FIRST_ROW: usize = BLOCK + 0x1930;
 /// F5 for block 2, 3600h.
 const TABLE: u8 = 2 << 5 | 27;
 const TABLE_ADDRESS: u16 = 0x8000 + 0x3600;
@@ -29,12 +31,9 @@ pub struct Screen<'m> {
 }
 
 /// Block and place of a row.
-fn row_place(row: usize) -> (u32, u32) {
-    let row = row as u32;
-    match row.checked_sub(ROWS_IN_BLOCK_1) {
-        None => (1, FIRST_ROW + row * ROW_BYTES),
-        Some(later) => (2, later * ROW_BYTES),
-    }
+pub fn row_place(row: usize) -> (u32, u32) {
+    let index = FIRST_ROW + ROW_BYTES * row;
+    ((index / BLOCK) as u32, (index % BLOCK) as u32)
 }
 
 impl<'m> Screen<'m> {
@@ -103,12 +102,50 @@ impl<'m> Screen<'m> {
         (0..COLUMNS).try_for_each(|column| self.cell(row, column, characters.next().unwrap_or(' '), false))
     }
 
+    /// Whether the picture shows a text from a cell on, each of its letters whole. The top line must be 0.
+    pub fn shows(&self, row: usize, column: usize, text: &str) -> bool {
+        text.chars().zip(column..).all(|(letter, column)| {
+            let cell = 8 * row * LINE_BYTES + column;
+            (0..8).all(|line| self.picture[cell + line * LINE_BYTES] == self.font.glyph(letter)[line])
+        })
+    }
+
     /// Brings the picture up to date.
     pub fn refresh(&mut self) -> Result<Drawn, String> {
         let drawn = Drawn::from(self.machine.refresh(&mut self.board, &self.ram, &mut self.picture));
         match drawn.refusal {
             0 => Ok(drawn),
             refusal => Err(format!("refresh refused with {refusal}")),
+        }
+    }
+}
+
+#[cfg(test)]
+mod tests {
+    use super::*;
+    use joyce::machine::Model;
+
+    #[test]
+    fn rows_follow_each_other() {
+        assert_eq!(row_place(0), (1, 0x1930));
+        assert_eq!(row_place(ROW_ACROSS), (1, 0x3DC0));
+        assert_eq!(0x3DC0 + 8 * COLUMN_ACROSS, BLOCK);
+        assert_eq!(row_place(ROWS), (2, 0x3330));
+    }
+
+    #[test]
+    fn cells_are_looked_at_whole() {
+        let mut screen = Screen::start(&Model).expect("a screen");
+        let text = "0123456789".repeat(9);
+        screen.row(ROW_ACROSS, &text).expect("a row");
+        screen.refresh().expect("a picture");
+        let end = &text[COLUMN_ACROSS..];
+        assert!(screen.shows(ROW_ACROSS, COLUMN_ACROSS, end));
+        for (line, column) in (0..8).flat_map(|line| (0..COLUMNS).map(move |column| (line, column))) {
+            let at = (8 * ROW_ACROSS + line) * LINE_BYTES + column;
+            screen.picture[at] ^= 0x10;
+            assert_eq!(screen.shows(ROW_ACROSS, COLUMN_ACROSS, end), column < COLUMN_ACROSS);
+            screen.picture[at] ^= 0x10;
         }
     }
 }
