@@ -92,7 +92,7 @@ pub fn pixel_index(p: Pointer, i: u8) -> usize
     ensures { λ r. ⌜ r ≡ pixelIndex p i ⌝ }
 {
     let way = 8 * i as usize;
-    (p.block as usize * 16384 + (p.start as usize + way)) % 131072
+    (p.block as usize * 16384 + p.start as usize + way) % 131072
 }
 
 // A RAM byte as F7 has it drawn.

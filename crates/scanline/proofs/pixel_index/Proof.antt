@@ -1,4 +1,4 @@
--- `pixel_index` gives `pixelIndex`, the way from the start added up first.
+-- `pixel_index` gives `pixelIndex`.
 -- Assumes nothing.
 use native.Mathlib.Omega.{arith}
 use borrow.Author.Needs.{needs}
