@@ -1,4 +1,5 @@
 -- A sound archive is the only one of its list.
+-- Assumes nothing.
 use Prim.Native.Nat.{ℕ, _+_, _-_, _*_, _≤_, _<_}
 use native.Mathlib.Omega.{arith}
 use mathlib.Core.Path.{_≡_, refl, sym, ap, _∙_}
@@ -108,15 +109,15 @@ sound-is b h =
 -- ---- the frames of a sound archive
 
 module _ (b : List ℕ) (is : SoundIs b) where
-  place-in : (k : ℕ) → k < countOf b → pictureOffset (countOf b) k + 23040 ≤ length b
+  offset-in : (k : ℕ) → k < countOf b → pictureOffset (countOf b) k + 23040 ≤ length b
   unfolding pictureOffset
-  place-in k l = omega (arith, is .head .size)
+  offset-in k l = omega (arith, is .head .size)
 
   pub lines-length : (k : ℕ) → k < countOf b → length (linesAt b k) ≡ shownAt b k * 90
   unfolding linesAt
   lines-length k l =
       length-take-le (shownAt b k * 90) (drop (offsetAt b k) b)
-      (simp length-drop (omega (arith, place-in k l, is .each k l .offset, shown-most (shownAt b k) (is .each k l .shown))))
+      (simp length-drop (omega (arith, offset-in k l, is .each k l .offset, shown-most (shownAt b k) (is .each k l .shown))))
 
   pub shown-is : (k : ℕ) → k < countOf b → shownOf (frameAt b k) ≡ shownAt b k
   unfolding shownOf frameAt
@@ -133,15 +134,15 @@ module _ (b : List ℕ) (is : SoundIs b) where
   unfolding pictureRow frameAt linesAt
   picture-is k l =
       let n : shownAt b k * 90 ≤ 23040 = omega (arith, shown-most (shownAt b k) (is .each k l .shown)) in
-      rw (lines-length k l, ← is .each k l .offset) (zeros-behind b (offsetAt b k) (shownAt b k * 90) 23040 n (rw (is .each k l .offset) (place-in k l)) (blank-in k l))
+      rw (lines-length k l, ← is .each k l .offset) (zeros-behind b (offsetAt b k) (shownAt b k * 90) 23040 n (rw (is .each k l .offset) (offset-in k l)) (blank-in k l))
 
   entry-row-is : ((j : ℕ) → getD b j 0 < 256) → (k : ℕ) → k < countOf b → entryRow (frameAt b) (countOf b) k ≡ take 16 (drop (20 + 16 * k) b)
   unfolding entryRow frameAt entryOffset benchAt numberAt shownAt offsetAt
   entry-row-is small k l = rw (shown-is k l, ← is .each k l .offset) (entry-bytes b small (20 + 16 * k) (omega (arith, is .head .size)))
 
-  pub picture-place : (k : ℕ) → k < countOf b → pictureRow (frameAt b) k ≡ take 23040 (drop (20 + 16 * countOf b + 23040 * k) b)
+  pub picture-at : (k : ℕ) → k < countOf b → pictureRow (frameAt b) k ≡ take 23040 (drop (20 + 16 * countOf b + 23040 * k) b)
   unfolding pictureOffset
-  picture-place k l = picture-is k l
+  picture-at k l = picture-is k l
 
   header-of : ((j : ℕ) → getD b j 0 < 256) → header (countOf b) ≡ take 20 b
   unfolding header countOf
@@ -153,7 +154,7 @@ module _ (b : List ℕ) (is : SoundIs b) where
   pub read-archive : ((j : ℕ) → getD b j 0 < 256) → written (frameAt b) (countOf b) ≡ b
   unfolding written
   read-archive small =
-      rw (header-of small, rows-take (entryRow (frameAt b) (countOf b)) 16 b 20 (countOf b) (entry-row-is small), rows-take (pictureRow (frameAt b)) 23040 b (20 + 16 * countOf b) (countOf b) picture-place)
+      rw (header-of small, rows-take (entryRow (frameAt b) (countOf b)) 16 b 20 (countOf b) (entry-row-is small), rows-take (pictureRow (frameAt b)) 23040 b (20 + 16 * countOf b) (countOf b) picture-at)
       (three-parts b 20 (16 * countOf b) (23040 * countOf b) (omega (arith, is .head .size)))
 
   -- a sound archive is the only one of its list

@@ -1,4 +1,5 @@
 -- An archive that is written from frames reads back.
+-- Assumes nothing.
 use Prim.Native.Nat.{ℕ, _+_, _-_, _*_, _≤_, _<_}
 use native.Mathlib.Nat.{add-assoc, add-zero}
 use native.Mathlib.Omega.{arith}
@@ -110,9 +111,9 @@ module _ (f : ℕ → Frame) (n : ℕ) (few : n ≤ 1000) (good : (k : ℕ) → 
       drop-past (header n ++ rows (entryRow f n) n) (rows (pictureRow f) n) (20 + 16 * n) (23040 * k) entries-length
       ∙ rw append-nil at (rows-at (pictureRow f) 23040 n k [] row-picture l)
 
-  place-small : (k : ℕ) → k < n → pictureOffset n k < 4294967296
+  offset-small : (k : ℕ) → k < n → pictureOffset n k < 4294967296
   unfolding pictureOffset
-  place-small k l = omega arith
+  offset-small k l = omega arith
 
   -- the numbers of an entry
   pub archive-fields : (k : ℕ) → k < n
@@ -120,7 +121,7 @@ module _ (f : ℕ → Frame) (n : ℕ) (few : n ≤ 1000) (good : (k : ℕ) → 
   unfolding benchAt numberAt shownAt offsetAt entryRow
   archive-fields k l =
       let g = good k l in
-      let place : pictureOffset n k < 4294967296 = place-small k l in
+      let place : pictureOffset n k < 4294967296 = offset-small k l in
       let e = entry-reads (f k .bench) (f k .number) (shownOf (f k)) (pictureOffset n k) (drop (16 * k + 16) (rows (entryRow f n) n ++ rows (pictureRow f) n))
       (omega (arith, bench-most (f k .bench) (g .bench))) (g .number) (omega (arith, shown-most (shownOf (f k)) (g .shown))) place in
       let d = archive-entry k l in

@@ -18,7 +18,7 @@ use Rattle.byte_rows.specs.Numbers.{number4}
 use Rattle.archive_add.specs.Adding.{frameOf}
 use Rattle.archive_add.specs.Next.{movedRow, nextEntries, padded}
 use Rattle.archive.specs.declared.numbers.Entry.{Entry}
-use Rattle.archive.proofs.Read.{SoundIs, sound-is, frames-count, frames-at, picture-place, shown-is}
+use Rattle.archive.proofs.Read.{SoundIs, sound-is, frames-count, frames-at, picture-at, shown-is}
 use Rattle.archive.proofs.Written.{entry-length, header-length}
 
 pub entry-put : (o p q r s : List ℕ) (to a b c d : ℕ) → to ≤ length o
@@ -130,7 +130,7 @@ module _ (b : List ℕ) (is : SoundIs b) (f : Frame) where
   old-pictures : rows (pictureRow (frameIn (framesOf b ++ (f ∷ [])))) (countOf b) ≡ drop (20 + 16 * countOf b) b
   old-pictures =
       rows-same (pictureRow (frameIn (framesOf b ++ (f ∷ [])))) (pictureRow (frameAt b)) (countOf b) (λ k l. picture-same (frameIn (framesOf b ++ (f ∷ []))) (frameAt b) k (next-old k l))
-      ∙ rows-take (pictureRow (frameAt b)) 23040 b (20 + 16 * countOf b) (countOf b) (picture-place b is)
+      ∙ rows-take (pictureRow (frameAt b)) 23040 b (20 + 16 * countOf b) (countOf b) (picture-at b is)
       ∙ take-all (23040 * countOf b) (drop (20 + 16 * countOf b) b) (simp length-drop (omega (arith, is .head .size)))
 
   old-entries : rows (entryRow (frameIn (framesOf b ++ (f ∷ []))) (countOf b + 1)) (countOf b) ≡ rows (movedRow b (countOf b + 1)) (countOf b)

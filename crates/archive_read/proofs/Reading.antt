@@ -28,11 +28,12 @@ module _ (a : List ℕ) (k : ℕ) (r : EntryRead) (is : r ≡ entryAnswer a k) (
   most : shownAt a k ≤ 256
   most = shown-most (shownAt a k) (sound-is a (taken .is-sound) .each k (taken .below) .shown)
 
-  pub lines-inside : r .entry .offset + r .entry .shown * 90 ≤ length a
+  -- the whole picture lies inside, and its shown lines in it
+  pub picture-inside : (r .entry .offset + 23040 ≤ length a) × (r .entry .shown ≤ 256)
   unfolding entryOf pictureOffset
-  lines-inside =
+  picture-inside =
       let s = sound-is a (taken .is-sound) in
-      rw entry-is (omega (arith, s .head .size, taken .below, s .each k (taken .below) .offset, most))
+      rw entry-is (omega (arith, s .head .size, taken .below, s .each k (taken .below) .offset), most)
 
   lines-are : (from end : ℕ) → from ≡ r .entry .offset → end ≡ from + r .entry .shown * 90 → take (end - from) (drop from a) ≡ linesAt a k
   unfolding linesAt entryOf

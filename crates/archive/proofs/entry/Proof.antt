@@ -27,7 +27,8 @@ returns-2 : tie.Need-returns-2
 unfolding countOf
 returns-2 c =
     let s = c .before .before .before in
-    c .refused-entry2 .ensures ∙ entry-past _ _ (s .before .is-sound .ensures) (s .if1 .left) _ _ (c .before .before .read4 .ensures) (c .before .if2 .taken)
+    let k = s .before .before .before .args .k in
+    c .refused-entry2 .ensures ∙ entry-past _ _ (s .before .is-sound .ensures) (s .if1 .left) (c .before .before .read4 .result) k (c .before .before .read4 .ensures) (omega arith)
 
 read-entry-requires : tie.Need-read-entry-requires
 unfolding countOf

@@ -1,7 +1,8 @@
 -- The tests of `readAnswer`, in its order, and a copy of the lines.
 -- Assumes nothing.
 use mathlib.Core.Path.{refl}
-use Rattle.archive_read.proofs.Reading.{read-size, read-refused, lines-inside, read-done}
+use native.Mathlib.Omega.{arith}
+use Rattle.archive_read.proofs.Reading.{read-size, read-refused, picture-inside, read-done}
 use borrow.Author.Needs.{needs}
 use Rattle.archive_read.proofs.read.Statement.{statement}
 use Rattle.archive_read.proofs.read.Tie as tie
@@ -34,7 +35,8 @@ part-copy-end : tie.Need-part-copy-end
 part-copy-end c =
     let t = c .before .before .before in
     let e = t .before .before in
-    lines-inside _ _ _ (e .entry .ensures) (t .if2 .taken)
+    let s = picture-inside _ _ _ (e .entry .ensures) (t .if2 .taken) in
+    omega (arith, s .0, s .1, e .before .if1 .left)
 
 copy-requires : tie.Need-copy-requires
 copy-requires c κs = search needs
