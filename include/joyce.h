@@ -124,7 +124,8 @@ uint64_t joyce_power_on(joyce_board *board, uint8_t internal, uint8_t total, uin
 
 /* Makes one step on the record and the RAM. Reply: byte (0 where there is none), INT, NMI,
  * forwarded, refusal 1 to 5. A step makes a shown line dirty exactly if F5, F6, or D7 or D6 of F7
- * comes to differ, or the line's pointer word, or one of the 90 bytes named by its pointer before.
+ * comes to differ, or the line's pointer word, or one of the 90 bytes named by its pointer before
+ * (joyce_draw says where they are).
  * NMI is shown once; the route is none afterwards. After a refusal INT and NMI are those of the
  * record, off for 1. The boot stream is at most 1,024 bytes and only read by a fetch in boot mode;
  * where there is none, boot_len is 0 and boot is any address but null. A kind outside 1 to 9, a
@@ -134,7 +135,9 @@ uint64_t joyce_step(joyce_board *board, uint32_t kind, uint32_t number, uint32_t
                     uint8_t *ram, size_t ram_len, const uint8_t *boot, size_t boot_len);
 
 /* Writes all shown lines of the picture (256 on 50 Hz, 200 on 60 Hz) and no other byte; the record
- * stays. Reply: floating, refusal 1 or 2. */
+ * stays. Byte i of a line (0 to 89) is drawn from the RAM's byte at block x 16,384 + start + 8i,
+ * taken mod 131,072, block and start being those of the line's pointer: a line runs on into the next
+ * block, and from block 7 into block 0. Reply: floating, refusal 1 or 2. */
 uint64_t joyce_draw(const joyce_board *board, const uint8_t *ram, size_t ram_len,
                     uint8_t *picture, size_t picture_len);
 
