@@ -77,7 +77,7 @@ impl Bench<'_> {
     }
 }
 
-pub fn rows(bench: &Bench) -> Result<(), String> {
+pub(super) fn rows(bench: &Bench) -> Result<(), String> {
     let full = archive(MOST_FRAMES);
     let last = black_box(fields(MOST_FRAMES - 1));
     let mut picture = picture();
