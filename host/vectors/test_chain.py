@@ -1,5 +1,5 @@
 #!/usr/bin/env python3
-"""Writes stdin (the list that test_chain reads) and stdout (what it must print, by the rules of document 01). The program
+"""Writes stdin (the list that test_chain reads) and stdout (what it must print, by the rules of documents 01 and 02). The program
 chains what happens to a record, by value: no step, no refusal. Usage: test_chain.py DIRECTORY
 
 A group is five bytes, op a b c v; an index of the RAM is a + 256 b + 65536 c.

@@ -1,5 +1,5 @@
 #!/usr/bin/env python3
-"""Prints what test_leaves must print, by the rules of document 01."""
+"""Prints what test_leaves must print, by the rules of documents 01 and 02."""
 import sys
 
 from common import words

@@ -1,5 +1,5 @@
 #!/usr/bin/env python3
-"""Writes stdin (the list that test_steps reads) and stdout (what it must print, by the rules of document 01). The boot
+"""Writes stdin (the list that test_steps reads) and stdout (what it must print, by the rules of documents 01 and 02). The boot
 stream is the first bytes of the list itself: it is known only once the list is made, so the scenes are played more than
 once. Usage: test_steps.py DIRECTORY"""
 import sys

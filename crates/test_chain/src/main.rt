@@ -1,5 +1,5 @@
 // The record's methods by value, chained over a run: the record that one returns is the one that the next is called on. There is no
-// step and no refusal. The files stdin and stdout were made from document 01.
+// step and no refusal. The files stdin and stdout were made from documents 01 and 02.
 //
 // The list on standard input is groups of five bytes, op a b c v; an index of the RAM is a + 256 * b + 65536 * c. Op 0 is a power-on at
 // rate v, with the RAM's pattern; 1 a scan; 2 v to port a; 3 v stored at the index; 4 v stored from the keyboard at offset a; 5 prints

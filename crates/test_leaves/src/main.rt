@@ -1,4 +1,4 @@
-// Prints what the functions below the steps answer. The file stdout was made from document 01.
+// Prints what the functions below the steps answer. The file stdout was made from documents 01 and 02.
 mod memory;
 mod sets;
 mod wide;
