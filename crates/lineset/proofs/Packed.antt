@@ -1,7 +1,7 @@
 -- Laws of packed words: packing a test and reading it back, and what union, intersection and count make of packed words.
 -- Assumes nothing.
 use Prim.Native.Nat.{ℕ, zero, suc, _+_, _-_, _*_, _/_, _%_, _^_, _≤_, _<_}
-use native.Mathlib.Nat.{add-suc, suc-add, add-zero, zero-add, add-assoc, pow-suc, le-of-suc-le-suc, not-suc-le-zero, div-one}
+use native.Mathlib.Nat.{add-suc, suc-add, add-zero, zero-add, add-assoc, add-comm, zero-mul, mul-assoc, mul-mod-left, add-mul-mod-self-right, mod-eq-of-lt, pow-suc, le-of-suc-le-suc, not-suc-le-zero, div-one}
 use native.Mathlib.Numerals.{one-add}
 use native.Mathlib.Omega.{arith}
 use mathlib.Core.Path.{_≡_, refl, sym, _∙_, ap, ap₂}
@@ -9,9 +9,9 @@ use mathlib.Core.Bool.{Bool, true, false, _&&_, _||_}
 use lib.Dec.{eqb}
 use borrow.Author.Tests.{eqb-true, eqb-false, ne-eqb}
 use lib.Arith.{lt-of-le-ne}
-use lib.Bits.{bitOr, bitAnd, or-block, and-block}
+use lib.Bits.{bitOr, bitAnd, or-block, and-block, or-zero-l, or-zero-r}
 use lib.Count.{ones, ones-step}
-use lib.Pow.{shr-shr, pow-mono}
+use lib.Pow.{shr-shr, shl-shr, pow-pos, pow-add, mod-pow-add, mod-mod-pow}
 use mir.Val.{boolByte}
 use Rattle.facts.proofs.Bools.{boolByte-lt}
 use Rattle.lineset.specs.Lines.{packed, countOf}
@@ -73,40 +73,10 @@ packed-agree p q from n h =
     packed-number p (packed q from n) from n (packed-lt q from n)
     (λ i l. ap boolByte (h i l) ∙ sym (packed-bit q from n i l))
 
--- ---- a word made from its top digit down
-
--- one more digit below
-more-below : (p : ℕ → Bool) (j k m : ℕ) → m ≡ packed p (suc j) k → m + m + boolByte (p j) ≡ packed p j (suc k)
-unfolding packed
-more-below p j k m h = omega arith
-
--- a turn of the loop that makes a word of 64 digits from its top digit down
-pub packed-down :
-    (p : ℕ → Bool) (from i m : ℕ) →
-    0 < i →
-    i ≤ 64 →
-    m ≡ packed p (from + i) (64 - i) →
-    m + m + boolByte (p (from + (i - 1))) ≡ packed p (from + (i - 1)) (64 - (i - 1))
-packed-down p from i m lo hi h =
-    let e : from + i ≡ suc (from + (i - 1)) = omega arith in
-    let f : 64 - (i - 1) ≡ suc (64 - i) = omega arith in
-    rw f (more-below p (from + (i - 1)) (64 - i) m (h ∙ ap (λ (j : ℕ). packed p j (64 - i)) e))
-
--- a word of at most 64 digits fits
-pub packed-fits : (p : ℕ → Bool) (from n m : ℕ) → n ≤ 64 → m ≡ packed p from n → m < 2 ^ 64
-packed-fits p from n m h e = omega (arith, packed-lt p from n, pow-mono {i = n} {j = 64} h)
-
--- the loop's start and its end
+-- a loop's start: no digit
 pub packed-start : (p : ℕ → Bool) (from : ℕ) → 0 ≡ packed p from 0
 unfolding packed
 packed-start p from = refl
-
-pub packed-end : (p : ℕ → Bool) (from i m : ℕ) → i ≤ 0 → m ≡ packed p (from + i) (64 - i) → m ≡ packed p from 64
-packed-end p from i m h e =
-    let z : i ≡ 0 = omega arith in
-    let f : from + i ≡ from = omega arith in
-    let g : 64 - i ≡ 64 = omega arith in
-    e ∙ rw (f, g)
 
 -- the digits of a property from k on are those of the property moved down by k
 pub packed-moved : (p q : ℕ → Bool) (k from n : ℕ) → ((i : ℕ) → q i ≡ p (k + i)) → packed p (k + from) n ≡ packed q from n
@@ -114,6 +84,64 @@ unfolding packed
 packed-moved p q k from zero h = refl
 packed-moved p q k from (suc n) h =
     rw (h from, ← packed-moved p q k (suc from) n h, add-suc)
+
+-- ---- words behind each other
+
+-- m digits, and above them the n that follow
+pub packed-add : (p : ℕ → Bool) (m from n : ℕ) → packed p from (m + n) ≡ packed p from m + packed p (from + m) n * 2 ^ m
+unfolding packed
+packed-add p zero from n = rw (zero-add n, add-zero from) (omega arith)
+packed-add p (suc m) from n =
+    let e : suc from + m ≡ from + suc m = omega arith in
+    let q : packed p (from + suc m) n * 2 ^ suc m ≡ packed p (from + suc m) n * 2 ^ m * 2 = rw pow-suc (sym (mul-assoc _ _ _)) in
+    rw suc-add (omega (arith, packed-add p m (suc from) n, ap (λ (k : ℕ). packed p k n * 2 ^ m) e, q))
+
+-- the n lowest digits
+packed-lowest : (p : ℕ → Bool) (from n w : ℕ) → n ≤ 64 → w ≡ packed p from 64 → w % 2 ^ n ≡ packed p from n
+packed-lowest p from n w h e =
+    let s : 64 ≡ n + (64 - n) = omega arith in
+    rw (e ∙ ap (packed p from) s ∙ packed-add p n from (64 - n)) (add-mul-mod-self-right _ _ _ ∙ mod-eq-of-lt (packed-lt p from n))
+
+-- what is left of a number moved up by k digits in j + k
+shl-lowest : (n j k : ℕ) → n * 2 ^ k % 2 ^ (j + k) ≡ n % 2 ^ j * 2 ^ k
+shl-lowest n j k = mod-pow-add (n * 2 ^ k) j k ∙ rw (shl-shr n k, mul-mod-left n (2 ^ k)) (add-zero _)
+
+-- moved up by one digit and then by the others of 64 - d, in 64
+shl-twice : (n d : ℕ) → d < 64 → n * 2 ^ 1 % 2 ^ 64 * 2 ^ (63 - d) % 2 ^ 64 ≡ n % 2 ^ d * 2 ^ (64 - d)
+shl-twice n d h =
+    let up : 1 + (63 - d) ≡ 64 - d = omega arith in
+    let all : 64 ≡ d + (64 - d) = omega arith in
+    let most : 63 ≡ 63 - d + d = omega arith in
+    ap (λ (m : ℕ). m * 2 ^ (63 - d) % 2 ^ 64) (shl-lowest n 63 1)
+    ∙ ap (λ (m : ℕ). m % 2 ^ 64) (mul-assoc (n % 2 ^ 63) (2 ^ 1) (2 ^ (63 - d)) ∙ ap (λ (m : ℕ). n % 2 ^ 63 * m) (sym (pow-add 2 1 (63 - d)) ∙ ap (λ (m : ℕ). 2 ^ m) up))
+    ∙ ap (λ (m : ℕ). n % 2 ^ 63 * 2 ^ (64 - d) % 2 ^ m) all
+    ∙ shl-lowest (n % 2 ^ 63) d (64 - d)
+    ∙ ap (λ (m : ℕ). m * 2 ^ (64 - d)) (ap (λ (m : ℕ). n % 2 ^ m % 2 ^ d) most ∙ mod-mod-pow n (63 - d) d)
+
+-- of two words, one behind the other, the 64 digits from a digit of the first on
+pub packed-from-digit :
+    (p : ℕ → Bool) (from d low high : ℕ) →
+    d < 64 →
+    low ≡ packed p from 64 →
+    high ≡ packed p (from + 64) 64 →
+    bitOr (low / 2 ^ d) (high * 2 ^ 1 % 2 ^ 64 * 2 ^ (63 - d) % 2 ^ 64) ≡ packed p (from + d) 64
+packed-from-digit p from d low high h e f =
+    let all : d + (64 - d) ≡ 64 = omega arith in
+    let back : 64 - d + d ≡ 64 = omega arith in
+    let place : from + d + (64 - d) ≡ from + 64 = omega arith in
+    let bottom : low / 2 ^ d ≡ packed p (from + d) (64 - d) = ap (λ (w : ℕ). w / 2 ^ d) (e ∙ ap (packed p from) (sym all)) ∙ packed-shift p d from (64 - d) in
+    let top : high * 2 ^ 1 % 2 ^ 64 * 2 ^ (63 - d) % 2 ^ 64 ≡ packed p (from + 64) d * 2 ^ (64 - d) = shl-twice high d h ∙ ap (λ (w : ℕ). w * 2 ^ (64 - d)) (packed-lowest p (from + 64) d high (omega arith) f) in
+    ap₂ bitOr bottom top
+    ∙ or-apart (64 - d) (packed p (from + 64) d) (packed p (from + d) (64 - d)) (packed-lt p (from + d) (64 - d))
+    ∙ ap (λ (k : ℕ). packed p (from + d) (64 - d) + packed p k d * 2 ^ (64 - d)) (sym place)
+    ∙ sym (packed-add p (64 - d) (from + d) d)
+    ∙ ap (packed p (from + d)) back
+  where
+    or-apart : (k a r : ℕ) → r < 2 ^ k → bitOr r (a * 2 ^ k) ≡ r + a * 2 ^ k
+    or-apart k a r l =
+        ap₂ bitOr (sym (zero-add r) ∙ ap (λ (m : ℕ). m + r) (sym (zero-mul (2 ^ k)))) (sym (add-zero (a * 2 ^ k)))
+        ∙ or-block k 0 a r 0 l (pow-pos k)
+        ∙ rw (or-zero-l a, or-zero-r r) (add-comm (a * 2 ^ k) r)
 
 -- ---- union, intersection and count of packed words
 

@@ -1,182 +1,183 @@
--- Laws of the hits of the pointer table's entries: 512 bytes of 1 or 0, those of the 256 entries twice.
-use Prim.Native.Nat.{ℕ, _+_, _-_, _*_, _/_, _%_, _≤_, _<_}
+-- Laws of the hits of the pointer table's entries, 64 bytes of 1 or 0 for a quarter of them, and of the words made of them.
+use Prim.Native.Nat.{ℕ, suc, _+_, _-_, _*_, _/_, _%_, _^_, _≤_, _<_}
 use mathlib.Core.Path.{_≡_, refl, ap, sym, _∙_}
 use mathlib.Core.Bool.{Bool, true, false}
 use mathlib.Core.List.{List}
 use native.Mathlib.Nat.{add-zero}
 use native.Mathlib.Omega.{arith}
 use borrow.Author.Count.{below-none, below-more}
-use borrow.Author.Tests.{eqb-true, eqb-false, ltb-true, ltb-false}
-use lib.Dec.{eqb, ltb}
-use lib.ListN.{length, getD, set, length-set}
+use borrow.Author.Tests.{eqb-true, eqb-false}
+use lib.Dec.{eqb}
+use lib.ListN.{length, getD, set}
+use lib.Pow.{pow-add, pow-mono}
 use lib.Seq.{getD-set-same, getD-set-other}
 use mir.Val.{boolByte}
 use Rattle.lineset.specs.Lines.{packed}
 use Rattle.facts.proofs.Bools.{boolByte-lt}
-use Rattle.lineset.proofs.Packed.{packed-agree}
 use Rattle.scanline.specs.Pointers.{entryOf, entryIndex, pointerWord}
 use Rattle.scanline.proofs.Pointers.{table-index}
 use Rattle.scanline.specs.Drawing.{pixelTouched, touches}
-use Rattle.lineset.proofs.Packed.{packed-down, packed-end, packed-moved}
+use Rattle.lineset.proofs.Packed.{packed-add, packed-moved}
 use Rattle.scanline.proofs.Touches.{touches-pointer, touches-other}
 
--- whether hit j is set
-pub isHit : List ℕ → ℕ → Bool
-isHit hits j = eqb (getD hits j 0) 1
+-- ---- hits packed
 
-pub hit-byte : (hits : List ℕ) (j : ℕ) → getD hits j 0 < 2 → getD hits j 0 ≡ boolByte (isHit hits j)
-unfolding isHit
-hit-byte hits j h = go (eqb (getD hits j 0) 1) refl
+-- four bytes of 1 or 0 as one number, multiplied: digits 21 to 24 are those of the four
+four-digits : (a b c d : ℕ) → a < 2 → b < 2 → c < 2 → d < 2 → (a + 256 * b + 65536 * c + 16777216 * d) * 2113665 / 2097152 % 16 ≡ ((d * 2 + c) * 2 + b) * 2 + a
+four-digits a b c d h i j k =
+    let apart : (a + 256 * b + 65536 * c + 16777216 * d) * 2113665 ≡ 16513 * a + 33024 * b + 65536 * c + 2097152 * (((d * 2 + c) * 2 + b) * 2 + a) + 33554432 * (16 * b + 4128 * c + 1056832 * d) = omega arith in
+    ap (λ (n : ℕ). n / 2097152 % 16) apart ∙ middle (16513 * a + 33024 * b + 65536 * c) (((d * 2 + c) * 2 + b) * 2 + a) (16 * b + 4128 * c + 1056832 * d) (omega arith) (omega arith)
   where
-    go : (b : Bool) → eqb (getD hits j 0) 1 ≡ b → getD hits j 0 ≡ boolByte b
-    go true e = eqb-true (getD hits j 0) 1 e
-    go false e =
-        let n : (getD hits j 0 ≡ 1 → ⊥) = eqb-false (getD hits j 0) 1 e in
-        omega arith
+    middle : (low t high : ℕ) → low < 2097152 → t < 16 → (low + 2097152 * t + 33554432 * high) / 2097152 % 16 ≡ t
+    middle low t high l m = omega arith
 
--- a byte that hits p tells p
-pub is-hit : (p : ℕ → Bool) (hits : List ℕ) (j : ℕ) → getD hits j 0 ≡ boolByte (p j) → isHit hits j ≡ p j
-unfolding isHit
-is-hit p hits j e = go (p j) e
-  where
-    go : (b : Bool) → getD hits j 0 ≡ boolByte b → eqb (getD hits j 0) 1 ≡ b
-    go true f = rw f
-    go false f = rw f
+pub packed-four : (p : ℕ → Bool) (from : ℕ) → packed p from 4 ≡ ((boolByte (p (from + 3)) * 2 + boolByte (p (from + 2))) * 2 + boolByte (p (from + 1))) * 2 + boolByte (p from)
+unfolding packed
+packed-four p from =
+    let one : suc from ≡ from + 1 = omega arith in
+    let two : suc (suc from) ≡ from + 2 = omega arith in
+    let three : suc (suc (suc from)) ≡ from + 3 = omega arith in
+    rw (three, two, one) (omega arith)
 
--- a turn of the loop that makes a word of 64 hits from the top hit down
-pub hits-down :
-    (hits : List ℕ) (from i m : ℕ) →
-    0 < i →
-    i ≤ 64 →
-    getD hits (from + (i - 1)) 0 < 2 →
-    m ≡ packed (isHit hits) (from + i) (64 - i) →
-    m + m + getD hits (from + (i - 1)) 0 ≡ packed (isHit hits) (from + (i - 1)) (64 - (i - 1))
-hits-down hits from i m lo hi l h =
-    ap (λ (v : ℕ). m + m + v) (hit-byte hits (from + (i - 1)) l) ∙ packed-down (isHit hits) from i m lo hi h
-
--- the word made is that of the property isHit
-pub hits-end :
-    (hits : List ℕ) (from i m : ℕ) →
-    from + 64 ≤ length hits →
-    i ≤ 0 →
-    m ≡ packed (isHit hits) (from + i) (64 - i) →
+pub hits-four :
+    (hits : List ℕ) (i : ℕ) →
+    i + 4 ≤ length hits →
     (p : ℕ → Bool) →
     ((j : ℕ) → j < length hits → getD hits j 0 ≡ boolByte (p j)) →
-    m ≡ packed p from 64
-hits-end hits from i m l z h p f =
-    packed-end (isHit hits) from i m z h
-    ∙ packed-agree (isHit hits) p from 64 (λ k b. is-hit p hits (from + k) (f (from + k) (omega arith)))
+    (getD hits i 0 + 256 * getD hits (i + 1) 0 + 65536 * getD hits (i + 2) 0 + 16777216 * getD hits (i + 3) 0) * 2113665 / 2097152 % 16 ≡ packed p i 4
+hits-four hits i l p f =
+    rw (f i (omega arith), f (i + 1) (omega arith), f (i + 2) (omega arith), f (i + 3) (omega arith))
+    (four-digits _ _ _ _ (boolByte-lt (p i)) (boolByte-lt (p (i + 1))) (boolByte-lt (p (i + 2))) (boolByte-lt (p (i + 3))) ∙ sym (packed-four p i))
 
--- hits k and 256 + k are those of k, for each k below n
-pub Twice : (ℕ → Bool) → List ℕ → ℕ → Type 0
-Twice p hits n = (k : ℕ) → k < n → (getD hits k 0 ≡ boolByte (p k)) × (getD hits (256 + k) 0 ≡ boolByte (p k))
+-- a turn of the loop that makes a word of 64 hits from the top four down
+pub fours-down :
+    (p : ℕ → Bool) (i m four : ℕ) →
+    0 < i →
+    i ≤ 16 →
+    m ≡ packed p (4 * i) (64 - 4 * i) →
+    four ≡ packed p (4 * (i - 1)) 4 →
+    16 * m + four ≡ packed p (4 * (i - 1)) (64 - 4 * (i - 1))
+fours-down p i m four lo hi h e =
+    let n : 64 - 4 * (i - 1) ≡ 4 + (64 - 4 * i) = omega arith in
+    let k : 4 * i ≡ 4 * (i - 1) + 4 = omega arith in
+    let q = packed-add p 4 (4 * (i - 1)) (64 - 4 * i) in
+    let g : m ≡ packed p (4 * (i - 1) + 4) (64 - 4 * i) = h ∙ ap (λ (j : ℕ). packed p j (64 - 4 * i)) k in
+    rw n (omega arith)
 
-module _ (p : ℕ → Bool) (hits : List ℕ) where
-  pub twice-none : Twice p hits 0
-  unfolding Twice
-  twice-none = below-none (λ k. (getD hits k 0 ≡ boolByte (p k)) × (getD hits (256 + k) 0 ≡ boolByte (p k)))
+pub fours-fit : (i m four : ℕ) → 0 < i → i ≤ 16 → m < 2 ^ (64 - 4 * i) → four < 16 → (16 * m + four < 2 ^ (64 - 4 * (i - 1))) × (16 * m + four < 2 ^ 64)
+fours-fit i m four lo hi h f =
+    let n : 64 - 4 * (i - 1) ≡ 4 + (64 - 4 * i) = omega arith in
+    let e : 16 * m + four < 2 ^ (64 - 4 * (i - 1)) = rw (n, pow-add) (omega arith) in
+    (e, omega (arith, pow-mono {i = 64 - 4 * (i - 1)} {j = 64} (omega arith)))
 
-  pub twice-more : (e v : ℕ) → length hits ≡ 512 → e < 256 → v ≡ boolByte (p e) → Twice p hits e → Twice p (set (set hits e v) (256 + e) v) (e + 1)
-  unfolding Twice
-  twice-more e v l h q f =
-      below-more (λ k. (getD (set (set hits e v) (256 + e) v) k 0 ≡ boolByte (p k)) × (getD (set (set hits e v) (256 + e) v) (256 + k) 0 ≡ boolByte (p k))) e
-      (λ k b. (
-        other k (λ z. omega arith) (λ z. omega arith) ∙ f k b .0,
-        other (256 + k) (λ z. omega arith) (λ z. omega arith) ∙ f k b .1,
-      )) (
-        getD-set-other (set hits e v) (256 + e) e v 0 (λ z. omega arith) ∙ getD-set-same hits e v 0 (omega arith) ∙ q,
-        getD-set-same (set hits e v) (256 + e) v 0 (simp length-set (omega arith)) ∙ q,
-      )
-    where
-      other : (k : ℕ) → (k ≡ 256 + e → ⊥) → (k ≡ e → ⊥) → getD (set (set hits e v) (256 + e) v) k 0 ≡ getD hits k 0
-      other k a b = getD-set-other (set hits e v) (256 + e) k v 0 a ∙ getD-set-other hits e k v 0 b
+-- the loop's end
+pub fours-end : (p : ℕ → Bool) (i m : ℕ) → i ≤ 0 → m ≡ packed p (4 * i) (64 - 4 * i) → m ≡ packed p 0 64
+fours-end p i m z h =
+    let a : 4 * i ≡ 0 = omega arith in
+    h ∙ rw a
 
-  -- all of them, where p goes round after 256
-  pub twice-all : ((k : ℕ) → p (256 + k) ≡ p k) → Twice p hits 256 → (j : ℕ) → j < 512 → getD hits j 0 ≡ boolByte (p j)
-  unfolding Twice
-  twice-all r f j h = go (ltb j 256) refl
-    where
-      go : (b : Bool) → ltb j 256 ≡ b → getD hits j 0 ≡ boolByte (p j)
-      go true e = f j (ltb-true j 256 e) .0
-      go false e =
-          let l = ltb-false j 256 e in
-          let s : 256 + (j - 256) ≡ j = omega arith in
-          rw s at (f (j - 256) (omega arith) .1 ∙ ap boolByte (sym (r (j - 256))))
+-- hit k is p's, for each k below n
+unfoldable pub Told : (ℕ → Bool) → List ℕ → ℕ → Type 0
+Told p hits n = (k : ℕ) → k < n → getD hits k 0 ≡ boolByte (p k)
 
--- whether a place is among the pixel bytes of entry k
-unfoldable pub shows : List ℕ → ℕ → ℕ → ℕ → Bool
-shows ram table at k = pixelTouched (pointerWord ram table 0 k) at
+pub told-none : (p : ℕ → Bool) (hits : List ℕ) → Told p hits 0
+unfolding Told
+told-none p hits = below-none (λ k. getD hits k 0 ≡ boolByte (p k))
 
--- entries go round after 256, and the top line's entry is line 0's
-entry-round : (table k : ℕ) → entryIndex table 0 (256 + k) ≡ entryIndex table 0 k
-unfolding entryIndex entryOf
-entry-round table k = omega arith
+pub told-more : (p : ℕ → Bool) (hits : List ℕ) (e v : ℕ) → e < length hits → v ≡ boolByte (p e) → Told p hits e → Told p (set hits e v) (e + 1)
+unfolding Told
+told-more p hits e v h q f =
+    below-more (λ k. getD (set hits e v) k 0 ≡ boolByte (p k)) e
+    (λ k b. getD-set-other hits e k v 0 (λ z. omega arith) ∙ f k b)
+    (getD-set-same hits e v 0 h ∙ q)
 
-entry-top : (table top line : ℕ) → entryIndex table top line ≡ entryIndex table 0 (top + line)
-unfolding entryIndex entryOf
-entry-top table top line = omega arith
+-- ---- the entries of the table, in quarters of 64
+
+-- whether an index is among the pixel bytes of entry k of a quarter
+unfoldable pub shows : List ℕ → ℕ → ℕ → ℕ → ℕ → Bool
+shows ram table quarter at k = pixelTouched (pointerWord ram table 0 (64 * quarter + k)) at
 
 entry-half : (table j : ℕ) → entryIndex table 0 j / 2 ≡ 256 * table + j % 256
 unfolding entryIndex entryOf
 entry-half table j = omega (arith, table-index table)
 
-pub shows-round : (ram : List ℕ) (table at k : ℕ) → shows ram table at (256 + k) ≡ shows ram table at k
-unfolding shows pointerWord
-shows-round ram table at k = rw (entry-round table k)
+-- an entry's place in its quarter, by its index
+own-place : (table quarter at j : ℕ) → quarter < 4 → j < 64 → at / 2 ≡ entryIndex table 0 (64 * quarter + j) / 2 → (at / 128 ≡ 4 * table + quarter) × (j ≡ at % 128 / 2)
+own-place table quarter at j q l h =
+    let e : at / 2 ≡ 256 * table + (64 * quarter + j) = omega (arith, entry-half table (64 * quarter + j)) in
+    (omega arith, omega arith)
 
-pub touches-top : (ram : List ℕ) (table top at line : ℕ) → touches ram table top at line ≡ touches ram table 0 at (top + line)
-unfolding touches pointerWord
-touches-top ram table top at line = rw (entry-top table top line)
+own-entry : (table quarter at j : ℕ) → quarter < 4 → j < 64 → at / 128 ≡ 4 * table + quarter → j ≡ at % 128 / 2 → at / 2 ≡ entryIndex table 0 (64 * quarter + j) / 2
+own-entry table quarter at j q l h e =
+    let f : at / 2 ≡ 256 * table + (64 * quarter + j) = omega arith in
+    omega (arith, entry-half table (64 * quarter + j))
 
--- the word of 64 lines from a line on, by the hits from the top line's entry on
-pub word-top :
-    (ram : List ℕ) (table top at line m : ℕ) →
-    m ≡ packed (touches ram table 0 at) (top + line) 64 →
-    m ≡ packed (touches ram table top at) line 64
-word-top ram table top at line m h =
-    h ∙ packed-moved (touches ram table 0 at) (touches ram table top at) top line 64 (λ i. touches-top ram table top at i)
+-- the hits of a quarter's pixel bytes, and that of the pointer bytes set besides
+module _ (ram : List ℕ) (table quarter at : ℕ) (hits : List ℕ) (q : quarter < 4)
+    (f : (j : ℕ) → j < 64 → getD hits j 0 ≡ boolByte (pixelTouched (pointerWord ram table 0 (64 * quarter + j)) at)) where
+  other : (j : ℕ) → j < 64 → (at / 2 ≡ entryIndex table 0 (64 * quarter + j) / 2 → ⊥) → getD hits j 0 ≡ boolByte (touches ram table 0 at (64 * quarter + j))
+  other j h n = f j h ∙ ap boolByte (sym (touches-other ram table 0 at (64 * quarter + j) n))
 
-pub word-first :
-    (ram : List ℕ) (table top at m : ℕ) →
-    m ≡ packed (touches ram table 0 at) top 64 →
-    m ≡ packed (touches ram table top at) 0 64
-word-first ram table top at m h =
-    word-top ram table top at 0 m (h ∙ ap (λ (k : ℕ). packed (touches ram table 0 at) k 64) (sym (add-zero top)))
+  pub outside : (at / 128 ≡ 4 * table + quarter → ⊥) → (j : ℕ) → j < 64 → getD hits j 0 ≡ boolByte (touches ram table 0 at (64 * quarter + j))
+  outside n j h = other j h (λ z. n (own-place table quarter at j q h z .0))
 
-pub hits-small :
-    (p : ℕ → Bool) (hits : List ℕ) →
-    ((j : ℕ) → j < length hits → getD hits j 0 ≡ boolByte (p j)) →
-    (j : ℕ) →
-    j < length hits →
-    getD hits j 0 < 2
-hits-small p hits f j h = omega (arith, f j h, boolByte-lt (p j))
-
--- the hits of the pixel bytes, and those of the pointer bytes set besides
-module _ (ram : List ℕ) (table at : ℕ) (hits : List ℕ) (f : (j : ℕ) → j < 512 → getD hits j 0 ≡ boolByte (pixelTouched (pointerWord ram table 0 j) at)) where
-  pub outside : (at / 512 ≡ table → ⊥) → (j : ℕ) → j < 512 → getD hits j 0 ≡ boolByte (touches ram table 0 at j)
-  outside n j h =
-      f j h ∙ ap boolByte (sym (touches-other ram table 0 at j (λ (z : at / 2 ≡ entryIndex table 0 j / 2). n (omega (arith, entry-half table j)))))
-
-  pub within : at / 512 ≡ table → length hits ≡ 512 → (j : ℕ) → j < 512 → getD (set (set hits (at % 512 / 2) 1) (256 + at % 512 / 2) 1) j 0 ≡ boolByte (touches ram table 0 at j)
-  within t l j h = go (eqb (j % 256) (at % 512 / 2)) refl
+  pub within : at / 128 ≡ 4 * table + quarter → length hits ≡ 64 → (j : ℕ) → j < 64 → getD (set hits (at % 128 / 2) 1) j 0 ≡ boolByte (touches ram table 0 at (64 * quarter + j))
+  within t l j h = go (eqb j (at % 128 / 2)) refl
     where
-      second : (b : Bool) → eqb j (256 + at % 512 / 2) ≡ b → j % 256 ≡ at % 512 / 2 → getD (set (set hits (at % 512 / 2) 1) (256 + at % 512 / 2) 1) j 0 ≡ 1
-      second true e m = rw (eqb-true j (256 + at % 512 / 2) e) (getD-set-same (set hits (at % 512 / 2) 1) (256 + at % 512 / 2) 1 0 (simp length-set (omega arith)))
-      second false e m =
-          let n : (j ≡ 256 + at % 512 / 2 → ⊥) = eqb-false j (256 + at % 512 / 2) e in
-          let s : j ≡ at % 512 / 2 = omega arith in
-          getD-set-other (set hits (at % 512 / 2) 1) (256 + at % 512 / 2) j 1 0 n
-          ∙ ap (λ (k : ℕ). getD (set hits (at % 512 / 2) 1) k 0) s
-          ∙ getD-set-same hits (at % 512 / 2) 1 0 (omega arith)
-
-      go : (b : Bool) → eqb (j % 256) (at % 512 / 2) ≡ b → getD (set (set hits (at % 512 / 2) 1) (256 + at % 512 / 2) 1) j 0 ≡ boolByte (touches ram table 0 at j)
+      go : (b : Bool) → eqb j (at % 128 / 2) ≡ b → getD (set hits (at % 128 / 2) 1) j 0 ≡ boolByte (touches ram table 0 at (64 * quarter + j))
       go true e =
-          let m = eqb-true (j % 256) (at % 512 / 2) e in
-          second (eqb j (256 + at % 512 / 2)) refl m
-          ∙ ap boolByte (sym (touches-pointer ram table 0 at j (omega (arith, entry-half table j))))
+          let m = eqb-true j (at % 128 / 2) e in
+          ap (λ (k : ℕ). getD (set hits (at % 128 / 2) 1) k 0) m
+          ∙ getD-set-same hits (at % 128 / 2) 1 0 (omega arith)
+          ∙ ap boolByte (sym (touches-pointer ram table 0 at (64 * quarter + j) (own-entry table quarter at j q h t m)))
       go false e =
-          let n : (j % 256 ≡ at % 512 / 2 → ⊥) = eqb-false (j % 256) (at % 512 / 2) e in
-          getD-set-other (set hits (at % 512 / 2) 1) (256 + at % 512 / 2) j 1 0 (λ (z : j ≡ 256 + at % 512 / 2). n (omega arith))
-          ∙ getD-set-other hits (at % 512 / 2) j 1 0 (λ (z : j ≡ at % 512 / 2). n (omega arith))
-          ∙ f j h
-          ∙ ap boolByte (sym (touches-other ram table 0 at j (λ (z : at / 2 ≡ entryIndex table 0 j / 2). n (omega (arith, entry-half table j)))))
+          let n : (j ≡ at % 128 / 2 → ⊥) = eqb-false j (at % 128 / 2) e in
+          getD-set-other hits (at % 128 / 2) j 1 0 n ∙ other j h (λ z. n (own-place table quarter at j q h z .1))
+
+-- ---- lines by the entries that they use
+
+-- entries go round after 256, and the top line's entry is line 0's
+entry-round : (table n k : ℕ) → entryIndex table 0 (256 * n + k) ≡ entryIndex table 0 k
+unfolding entryIndex entryOf
+entry-round table n k = omega arith
+
+entry-top : (table top line : ℕ) → entryIndex table top line ≡ entryIndex table 0 (top + line)
+unfolding entryIndex entryOf
+entry-top table top line = omega arith
+
+module _ (ram : List ℕ) (table at : ℕ) where
+  touches-round : (n k : ℕ) → touches ram table 0 at k ≡ touches ram table 0 at (256 * n + k)
+  unfolding touches pointerWord
+  touches-round n k = rw (entry-round table n k)
+
+  touches-top : (top line : ℕ) → touches ram table top at line ≡ touches ram table 0 at (top + line)
+  unfolding touches pointerWord
+  touches-top top line = rw (entry-top table top line)
+
+  pub quarter-word : (quarter m : ℕ) → m ≡ packed (λ (j : ℕ). touches ram table 0 at (64 * quarter + j)) 0 64 → m ≡ packed (touches ram table 0 at) (64 * quarter) 64
+  quarter-word quarter m h =
+      h
+      ∙ sym (packed-moved (touches ram table 0 at) (λ (j : ℕ). touches ram table 0 at (64 * quarter + j)) (64 * quarter) 0 64 (λ i. refl))
+      ∙ ap (λ (k : ℕ). packed (touches ram table 0 at) k 64) (add-zero (64 * quarter))
+
+  -- the quarters go round after four
+  pub quarter-round : (q n m : ℕ) → q ≡ n % 4 → m ≡ packed (touches ram table 0 at) (64 * q) 64 → m ≡ packed (touches ram table 0 at) (64 * n) 64
+  quarter-round q n m r h =
+      let e : 256 * (n / 4) + 64 * q ≡ 64 * n = omega arith in
+      h
+      ∙ sym (packed-moved (touches ram table 0 at) (touches ram table 0 at) (256 * (n / 4)) (64 * q) 64 (touches-round (n / 4)))
+      ∙ ap (λ (k : ℕ). packed (touches ram table 0 at) k 64) e
+
+  -- the word of 64 lines from line 64 * n on: two quarters, one behind the other, from the top line's digit on
+  pub lines-word :
+      (top n low high w : ℕ) →
+      low ≡ packed (touches ram table 0 at) (64 * (top / 64 + n)) 64 →
+      high ≡ packed (touches ram table 0 at) (64 * (top / 64 + suc n)) 64 →
+      ((p : ℕ → Bool) (from : ℕ) → low ≡ packed p from 64 → high ≡ packed p (from + 64) 64 → w ≡ packed p (from + top % 64) 64) →
+      w ≡ packed (touches ram table top at) (64 * n) 64
+  lines-word top n low high w l h f =
+      let e : 64 * (top / 64 + suc n) ≡ 64 * (top / 64 + n) + 64 = omega arith in
+      let g : 64 * (top / 64 + n) + top % 64 ≡ top + 64 * n = omega arith in
+      f (touches ram table 0 at) (64 * (top / 64 + n)) l (h ∙ ap (λ (k : ℕ). packed (touches ram table 0 at) k 64) e)
+      ∙ ap (λ (k : ℕ). packed (touches ram table 0 at) k 64) g
+      ∙ packed-moved (touches ram table 0 at) (touches ram table top at) top (64 * n) 64 (touches-top top)

@@ -1,6 +1,6 @@
-// The lines that a store touches.
+// The lines that a store touches. The table's entries are tested in four quarters, so that 64 bytes of stack serve for all 256.
 ghost use mathlib.Core.Path.{_≡_};
-ghost use Prim.Native.Nat.{ℕ, _+_, _≤_, _<_};
+ghost use Prim.Native.Nat.{ℕ, _+_, _*_, _≤_, _<_};
 ghost use mathlib.Core.Bool.{Bool};
 ghost use lib.ListN.{length, getD};
 ghost use mir.Val.{boolByte};
@@ -23,62 +23,94 @@ fn pixel_hit(word: u16, at: usize) -> bool
     (word % 8 == (at % 8) as u16) & (way < 90)
 }
 
-// A hit, 1 or 0, for each of the table's entries that has an index among its pixel bytes. The 256 hits stand twice, so
-// that the lines' hits stand in a row from the top line's entry on.
-fn hit_pixels(ram: &[u8], table: u8, at: usize, hits: &mut [u8])
-    requires { ⌜ (at < 131072) × (length (now hits) ≡ 512) ⌝ }
-    ensures { λ r. ⌜ ((j : ℕ) → j < 512 → getD (now (hits .exit)) j 0 ≡ boolByte (pixelTouched (pointerWord (now (ram .entry)) table 0 j) at)) ⌝ }
+// A hit, 1 or 0, for each of a quarter of the table's 256 entries that has an index among its pixel bytes.
+fn hit_pixels(ram: &[u8], table: u8, quarter: usize, at: usize, hits: &mut [u8])
+    requires { ⌜ (at < 131072) × (quarter < 4) × (length (now hits) ≡ 64) ⌝ }
+    ensures { λ r. ⌜ ((j : ℕ) → j < 64 → getD (now (hits .exit)) j 0 ≡ boolByte (pixelTouched (pointerWord (now (ram .entry)) table 0 (64 * quarter + j)) at)) ⌝ }
 {
-    for e in 0..256 {
-        let word = pointer_word(ram, table, 0, e as u8);
-        let hit = pixel_hit(word, at) as u8;
-        hits[e] = hit;
-        hits[256 + e] = hit;
+    for e in 0..64 {
+        let word = pointer_word(ram, table, 0, (64 * quarter + e) as u8);
+        hits[e] = pixel_hit(word, at) as u8;
     }
 }
 
-// A hit for each entry that has an index among its pixel bytes or its two pointer bytes.
-fn hit_entries(ram: &[u8], table: u8, at: usize, hits: &mut [u8])
-    requires { ⌜ (at < 131072) × (length (now hits) ≡ 512) ⌝ }
-    ensures { λ r. ⌜ ((j : ℕ) → j < 512 → getD (now (hits .exit)) j 0 ≡ boolByte (touches (now (ram .entry)) table 0 at j)) ⌝ }
+// A hit for each of them that has an index among its pixel bytes or its two pointer bytes.
+fn hit_entries(ram: &[u8], table: u8, quarter: usize, at: usize, hits: &mut [u8])
+    requires { ⌜ (at < 131072) × (quarter < 4) × (length (now hits) ≡ 64) ⌝ }
+    ensures { λ r. ⌜ ((j : ℕ) → j < 64 → getD (now (hits .exit)) j 0 ≡ boolByte (touches (now (ram .entry)) table 0 at (64 * quarter + j))) ⌝ }
 {
-    hit_pixels(ram, table, at, hits);
-    if at / 512 == table as usize {
-        let e = at % 512 / 2;
-        hits[e] = 1;
-        hits[256 + e] = 1;
+    hit_pixels(ram, table, quarter, at, hits);
+    if at / 128 == 4 * table as usize + quarter {
+        hits[at % 128 / 2] = 1;
     }
 }
 
-// 64 hits as a word, made from its top digit down.
-fn hit_word(hits: &[u8], from: usize) -> u64
-    requires { ⌜ (from + 64 ≤ length (now hits)) × ((j : ℕ) → j < length (now hits) → getD (now hits) j 0 < 2) ⌝ }
-    ensures { λ r. ⌜ ((p : ℕ → Bool) → ((j : ℕ) → j < length (now (hits .entry)) → getD (now (hits .entry)) j 0 ≡ boolByte (p j)) → r ≡ packed p from 64) ⌝ }
+// Four hits as a number, the first in the lowest digit. Their bytes make one number, and the product has the four as digits 21 to 24:
+// no digit of it is met twice.
+fn four_hits(hits: &[u8], i: usize) -> u64
+    requires { ⌜ i + 4 ≤ length (now hits) ⌝ }
+    ensures { λ r. ⌜ r < 16 ⌝ }
+    ensures { λ r. ⌜ ((p : ℕ → Bool) → ((j : ℕ) → j < length (now (hits .entry)) → getD (now (hits .entry)) j 0 ≡ boolByte (p j)) → r ≡ packed p i 4) ⌝ }
+{
+    let bytes = hits[i] as u64
+        + 256 * hits[i + 1] as u64
+        + 65536 * hits[i + 2] as u64
+        + 16777216 * hits[i + 3] as u64;
+    bytes * 2113665 / 2097152 % 16
+}
+
+// 64 hits as a word, made from its top digits down.
+fn hit_word(hits: &[u8]) -> u64
+    requires { ⌜ length (now hits) ≡ 64 ⌝ }
+    ensures { λ r. ⌜ ((p : ℕ → Bool) → ((j : ℕ) → j < length (now (hits .entry)) → getD (now (hits .entry)) j 0 ≡ boolByte (p j)) → r ≡ packed p 0 64) ⌝ }
 {
     let mut m: u64 = 0;
-    let mut i: usize = 64;
+    let mut i: usize = 16;
     while i > 0 {
         i -= 1;
-        m = m + m + hits[from + i] as u64;
+        m = 16 * m + four_hits(hits, 4 * i);
     }
     m
 }
 
-// The lines for which another byte at an index of the RAM changes the pointer word or a pixel byte.
+// A quarter of the table's entries as a word: those that another byte at an index alters.
+fn entries_word(ram: &[u8], table: u8, quarter: usize, at: usize) -> u64
+    requires { ⌜ (at < 131072) × (quarter < 4) ⌝ }
+    ensures { λ r. ⌜ r ≡ packed (touches (now (ram .entry)) table 0 at) (64 * quarter) 64 ⌝ }
+{
+    let mut hits = [0u8; 64];
+    hit_entries(ram, table, quarter, at, &mut hits);
+    hit_word(&hits)
+}
+
+// Of two words, one behind the other, the 64 digits from a digit of the first on.
+fn from_digit(low: u64, high: u64, digit: u64) -> u64
+    requires { ⌜ digit < 64 ⌝ }
+    ensures { λ r. ⌜ ((p : ℕ → Bool) (from : ℕ) → low ≡ packed p from 64 → high ≡ packed p (from + 64) 64 → r ≡ packed p (from + digit) 64) ⌝ }
+{
+    low >> digit | high << 1 << (63 - digit)
+}
+
+// The lines for which another byte at an index of the RAM changes the pointer word or a pixel byte. Line 0 has the entry `top`,
+// and after entry 255 comes entry 0.
 pub fn touched(ram: &[u8], table: u8, top: u8, at: usize) -> LineSet
     ensures { λ r. ⌜ r ≡ setOf (touches (now (ram .entry)) table top at) ⌝ }
 {
     if at >= 131072 {
         return LineSet::empty();
     }
-    let mut hits = [0u8; 512];
-    hit_entries(ram, table, at, &mut hits);
-    let first = top as usize;
-    let a = hit_word(&hits, first);
-    let b = hit_word(&hits, first + 64);
-    let c = hit_word(&hits, first + 128);
-    let d = hit_word(&hits, first + 192);
+    let quarter = top as usize / 64;
+    let digit = top as u64 % 64;
+    let a = entries_word(ram, table, quarter, at);
+    let b = entries_word(ram, table, (quarter + 1) % 4, at);
+    let c = entries_word(ram, table, (quarter + 2) % 4, at);
+    let d = entries_word(ram, table, (quarter + 3) % 4, at);
     LineSet {
-        words: [a, b, c, d],
+        words: [
+            from_digit(a, b, digit),
+            from_digit(b, c, digit),
+            from_digit(c, d, digit),
+            from_digit(d, a, digit),
+        ],
     }
 }

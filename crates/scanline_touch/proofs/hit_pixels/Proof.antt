@@ -1,24 +1,30 @@
--- `hit_pixels` hits each entry twice. The loop's invariant: the hits of the entries below e are made, and those 256 later.
+-- `hit_pixels` hits 64 entries. The loop's invariant: the hits below e are made.
 -- Assumes nothing.
-use Prim.Native.Nat.{_-_, _≤_, ℕ}
+use Prim.Native.Nat.{ℕ, _-_, _≤_}
 use mathlib.Core.Path.{_≡_, ap, _∙_}
 use native.Mathlib.Omega.{arith}
 use borrow.Author.Needs.{needs}
 use lib.ListN.{length, length-set}
 use mir.Val.{boolByte}
 use Rattle.scanline.specs.Drawing.{pixelTouched}
-use Rattle.scanline_touch.proofs.Hits.{Twice, twice-none, twice-more, twice-all, shows, shows-round}
+use Rattle.scanline_touch.proofs.Hits.{Told, told-none, told-more, shows}
 use Rattle.scanline_touch.proofs.hit_pixels.Statement.{statement}
 use Rattle.scanline_touch.proofs.hit_pixels.Tie as tie
 
 abbrev Inv-loop : tie.InvT-loop
-Inv-loop ram table at hits₀ e₀ hits e = (e ≤ 256) × (length hits ≡ 512) × Twice (shows ram table at) hits e
+Inv-loop ram table quarter at hits₀ e₀ hits e = (e ≤ 64) × (length hits ≡ 64) × Told (shows ram table quarter at) hits e
 
 abbrev μ-loop : tie.MeasureT-loop
-μ-loop ram table at hits₀ e₀ hits e = 256 - e
+μ-loop ram table quarter at hits₀ e₀ hits e = 64 - e
 
 loop-holds : tie.Need-loop-holds Inv-loop μ-loop
-loop-holds c = (search needs, c .before .before .pre .1, twice-none _ _)
+loop-holds c = (search needs, c .before .before .pre .2, told-none _ _)
+
+mul-pointer-word : tie.Need-mul-pointer-word Inv-loop μ-loop
+mul-pointer-word c = omega arith
+
+add-pointer-word : tie.Need-add-pointer-word Inv-loop μ-loop
+add-pointer-word c = omega arith
 
 cast-pointer-word : tie.Need-cast-pointer-word Inv-loop μ-loop
 cast-pointer-word c = omega arith
@@ -29,17 +35,11 @@ pointer-word-requires c κs = tt
 pixel-hit-requires : tie.Need-pixel-hit-requires Inv-loop μ-loop
 pixel-hit-requires c κs = omega arith
 
-cast-hit : tie.Need-cast-hit Inv-loop μ-loop
-cast-hit c = tt
+cast-hits : tie.Need-cast-hits Inv-loop μ-loop
+cast-hits c = tt
 
 slice-write-hits : tie.Need-slice-write-hits Inv-loop μ-loop
 slice-write-hits c = omega arith
-
-add-hits : tie.Need-add-hits Inv-loop μ-loop
-add-hits c = omega arith
-
-slice-write-hits-2 : tie.Need-slice-write-hits-2 Inv-loop μ-loop
-slice-write-hits-2 c = simp length-set (omega arith)
 
 add-e : tie.Need-add-e Inv-loop μ-loop
 add-e c = omega arith
@@ -54,18 +54,18 @@ loop-again c =
     let at = c .before .before .before .before .before .before .args .at in (
       omega arith,
       simp length-set (s .inv .1),
-      twice-more _ (s .hits) (s .e) _ (s .inv .1) (omega arith) (ap boolByte (c .pixel-hit .ensures ∙ ap (λ (w : ℕ). pixelTouched w at) (c .before .pointer-word .ensures))) (s .inv .2),
+      told-more _ (s .hits) (s .e) _ (omega arith) (ap boolByte (c .pixel-hit .ensures ∙ ap (λ (w : ℕ). pixelTouched w at) (c .before .pointer-word .ensures))) (s .inv .2),
     )
 
 same-length : tie.Need-same-length Inv-loop μ-loop
 same-length c = omega arith
 
 returns : tie.Need-returns Inv-loop μ-loop
-unfolding shows
+unfolding shows Told
 returns c =
     let s = c .before .loop in
-    let end : s .e ≡ 256 = omega arith in
-    twice-all _ (s .hits) (λ k. shows-round _ _ _ k) (rw end at (s .inv .2))
+    let end : s .e ≡ 64 = omega arith in
+    rw end at (s .inv .2)
 
 pub hit-pixels-spec : {M : Type 1} → statement M
 hit-pixels-spec =
@@ -74,13 +74,13 @@ hit-pixels-spec =
     Inv-loop
     μ-loop
     loop-holds
+    mul-pointer-word
+    add-pointer-word
     cast-pointer-word
     pointer-word-requires
     pixel-hit-requires
-    cast-hit
+    cast-hits
     slice-write-hits
-    add-hits
-    slice-write-hits-2
     add-e
     loop-less
     loop-again
