@@ -1,6 +1,12 @@
-//! Tells cargo where the board library is, unless the stand-in takes its place.
+//! Tells cargo where the board library is, and makes a table of the functions that the header has for it, unless the stand-in
+//! takes its place.
 
+#[path = "src/header.rs"]
+mod header;
+
+use header::Prototype;
 use std::env;
+use std::fmt::Write;
 use std::fs;
 use std::path::PathBuf;
 
@@ -20,15 +26,42 @@ fn main() {
     }
     println!("cargo:rustc-link-search=native={}", folder.display());
     println!("cargo:rustc-link-lib=static=joyce");
+    if let Err(error) = write_table() {
+        eprintln!("{error}");
+        std::process::exit(1);
+    }
 }
 
 fn library_folder() -> PathBuf {
     match env::var_os("JOYCE_LIB") {
         // The linker runs elsewhere, so a folder named from here is made whole.
         Some(folder) => fs::canonicalize(&folder).unwrap_or_else(|_| PathBuf::from(folder)),
-        None => {
-            let manifest = env::var_os("CARGO_MANIFEST_DIR").expect("cargo sets the manifest folder");
-            PathBuf::from(manifest).join("../target/staticlib")
-        }
+        None => folder_named("CARGO_MANIFEST_DIR").join("../target/staticlib"),
     }
+}
+
+fn folder_named(variable: &str) -> PathBuf {
+    PathBuf::from(env::var_os(variable).unwrap_or_else(|| panic!("cargo sets {variable}")))
+}
+
+/// A function that cannot be read must not go unmeasured, so it stops the build.
+fn write_table() -> Result<(), String> {
+    let header = folder_named("CARGO_MANIFEST_DIR").join("../include/joyce.h");
+    println!("cargo:rerun-if-changed={}", header.display());
+    let named = |error: String| format!("{}: {error}; host/src/header.rs reads it", header.display());
+    let text = fs::read_to_string(&header).map_err(|error| named(error.to_string()))?;
+    let table = table(&header::prototypes(&text).map_err(named)?);
+    let path = folder_named("OUT_DIR").join("header_functions.rs");
+    fs::write(&path, table).map_err(|error| format!("{}: {error}", path.display()))
+}
+
+/// The table as Rust, for src/tool/stack/functions.rs.
+fn table(prototypes: &[Prototype]) -> String {
+    let (mut names, mut rows) = (String::new(), String::new());
+    for Prototype { name, result, parameters } in prototypes {
+        let row = format!("name: {name:?}, result: {result:?}, parameters: &{parameters:?}, address: {name}");
+        writeln!(names, "    fn {name}();").expect("writing to a string cannot fail");
+        writeln!(rows, "    Function {{ {row} }},").expect("writing to a string cannot fail");
+    }
+    format!("extern \"C\" {{\n{names}}}\n\npub const FUNCTIONS: &[Function] = &[\n{rows}];\n")
 }

@@ -6,6 +6,9 @@
  * (but joyce_power_on, refused with 6, leaves a record of zeros). Lent memory must be there for the
  * length given, and is not kept; memory that a function writes must not overlap other lent memory.
  * No pointer may be null, with length 0 neither: any other address serves then.
+ *
+ * A call uses at most 1,024 bytes of stack, its return address and stacked arguments included, and
+ * nothing is allocated. (docs/DECISIONS.md, 41, has the number of each function.)
  */
 #ifndef JOYCE_H
 #define JOYCE_H

@@ -23,6 +23,7 @@ use pair::Pair;
 pub use pair::Tally;
 pub use rng::Rng;
 use std::fmt;
+pub use unusual::{any_board, good_board};
 
 /// Calls in one episode.
 const EPISODE: u64 = 500;

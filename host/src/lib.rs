@@ -8,6 +8,7 @@ pub mod ffi;
 #[path = "standin.rs"]
 pub mod ffi;
 pub mod fuzz;
+pub mod header;
 pub mod interface;
 pub mod machine;
 pub mod model;

@@ -34,6 +34,8 @@ joyce fuzz [--calls N] [--seed S] [--episode E] [--fault F]
                                 the library against the model (2000000 calls, seed 1);
                                 --fault only with the stand-in
 joyce bench [--ms N]            the library's time beside the model's (60 ms for each)
+joyce stack [--limit N]         the bytes of stack that each function of the library uses;
+                                exit status 1 if one is over what a call may use (1024)
 joyce help                      this text
 ";
 
@@ -56,7 +58,7 @@ fn arguments() -> Result<Vec<String>, String> {
     words.collect::<Result<_, _>>().map_err(|word| format!("{word:?} is not UTF-8"))
 }
 
-/// True for success, false for a difference that was found.
+/// True for success, false for a difference that was found, or another answer that is no.
 fn run(arguments: &[String]) -> Result<bool, String> {
     let (command, rest) = match arguments.split_first() {
         Some((command, rest)) => (command.as_str(), rest),
@@ -70,6 +72,7 @@ fn run(arguments: &[String]) -> Result<bool, String> {
         "archive" => tool::archive::run(&Library, rest),
         "fuzz" => run_fuzz(rest),
         "bench" => tool::bench::run(&Library, rest).map(|()| true),
+        "stack" => tool::stack::run(rest),
         "help" | "--help" | "-h" => out::write(HELP).map(|()| true),
         "" => Err(format!("no command\n{HELP}")),
         other => Err(format!("unknown command {other}\n{HELP}")),

@@ -4,6 +4,7 @@ use super::call::{Call, BOOT_ROOM, PICTURE_ROOM, RAM_MARGIN};
 use super::generate::Generator;
 use super::rng::Rng;
 use crate::machine::StepNumbers;
+use crate::model::PowerOn;
 use crate::record::{Board, Boot, Clock, Disc, Lines, Paging, Sizes, Video, BLOCK, LINE_BYTES, PICTURE, ROUTE_NMI};
 
 /// A step with a kind, number or value out of range, or given where there is none; a few turn out sound.
@@ -88,6 +89,15 @@ fn with_wrong_length(generator: &mut Generator, call: Call) -> Call {
 pub fn random_good(generator: &mut Generator) -> Board {
     let on = generator.allowed_power_on();
     let rng = &mut generator.rng;
+    let mut board = good_board(rng, &on);
+    if rng.once_in(8) {
+        board.sizes.total = rng.pick(&[8, 16, 32, 127, 128]).max(board.sizes.internal);
+    }
+    board
+}
+
+/// A good record with what an allowed power-on gives, and all else at random.
+pub fn good_board(rng: &mut Rng, on: &PowerOn) -> Board {
     let mut board = Board {
         sizes: on.sizes,
         rate: on.rate,
@@ -110,9 +120,6 @@ pub fn random_good(generator: &mut Generator) -> Board {
     board.dirty = random_lines(rng).and(&board.shown());
     if board.disc.route == ROUTE_NMI {
         board.disc.line = 0;
-    }
-    if rng.once_in(8) {
-        board.sizes.total = rng.pick(&[8, 16, 32, 127, 128]).max(board.sizes.internal);
     }
     board
 }
@@ -149,12 +156,13 @@ pub fn damaged(generator: &mut Generator) -> Board {
         14 => board.dirty.words[3] |= 1 << rng.below(64),
         15 => board.dirty.words[3] |= 1 << 8,
         16 => board.disc = Disc { route: ROUTE_NMI, line: 1, ..board.disc },
-        _ => board = any_bytes(rng),
+        _ => board = any_board(rng),
     }
     board
 }
 
-fn any_bytes(rng: &mut Rng) -> Board {
+/// A record of any bytes.
+pub fn any_board(rng: &mut Rng) -> Board {
     let mut b = || rng.byte();
     let mut board = Board {
         sizes: Sizes { internal: b(), total: b() },

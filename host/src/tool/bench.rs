@@ -4,56 +4,18 @@
 mod archives;
 
 use super::args::Args;
+use super::fixture::{fixture, lay_table, Fixture};
 use super::out;
 use super::timing::{black_box, keep, nanoseconds};
 use joyce::machine::{Machine, Model, StepNumbers};
 use joyce::model::{Access, PowerOn};
 use joyce::model_c::C_MODEL;
-use joyce::record::{Board, Lines, Paging, Sizes, BLOCK, PICTURE};
+use joyce::record::{Lines, Paging, Sizes, BLOCK};
 use std::cell::{Cell, RefCell};
 use std::time::{Duration, Instant};
 
 /// The library's nanoseconds.
 type Timed = Result<f64, String>;
-
-/// A board with its memory, ready to be stepped.
-#[derive(Clone)]
-struct Fixture {
-    board: Board,
-    ram: Vec<u8>,
-    picture: Vec<u8>,
-    boot: Vec<u8>,
-}
-
-/// A board with the standard screen, out of boot mode, video on, no line dirty.
-fn fixture(total: u8) -> Fixture {
-    let on = PowerOn {
-        sizes: Sizes { internal: 8, total },
-        rate: 50,
-        maps: [0x83, 0x81, 0x82, 0x80 | (total - 1)],
-        lock: 0,
-        table: 0x5B,
-        top: 0,
-    };
-    let mut ram: Vec<u8> = (0..total as usize * BLOCK).map(|at| ((at * 31) >> 3) as u8).collect();
-    lay_table(&mut ram, |line| BLOCK + 0x1930 + line / 8 * 720 + line % 8);
-    let mut fixture = Fixture { board: Board::default(), ram, picture: vec![0; PICTURE], boot: vec![0x5A; 1_024] };
-    Model.power_on(&mut fixture.board, &on);
-    fixture.board.boot.mode = 0;
-    fixture.board.video.control = 0x40;
-    fixture.board.dirty = Lines::default();
-    fixture
-}
-
-/// Lays the pointer table at block 2, 3600h, from the index that each line starts at.
-fn lay_table(ram: &mut [u8], start: impl Fn(usize) -> usize) {
-    for line in 0..256 {
-        let at = start(line);
-        let word = Model.make_pointer((at / BLOCK) as u32, (at % BLOCK) as u32).value();
-        let entry = 2 * BLOCK + 0x3600 + 2 * line;
-        ram[entry..entry + 2].copy_from_slice(&word.to_le_bytes());
-    }
-}
 
 /// How often the whole table is gone through. What else the machine does for a while meets a row once or twice, not every time.
 const PASSES: u32 = 6;

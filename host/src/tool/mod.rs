@@ -6,6 +6,7 @@ pub mod bench;
 pub mod demo;
 pub mod diff;
 pub mod files;
+pub mod fixture;
 pub mod font;
 pub mod ledger;
 pub mod lock;
@@ -14,4 +15,9 @@ pub mod pbm;
 pub mod preview;
 pub mod render;
 pub mod screen;
+#[cfg(all(target_arch = "x86_64", not(feature = "standin")))]
+pub mod stack;
+#[cfg(not(all(target_arch = "x86_64", not(feature = "standin"))))]
+#[path = "no_stack.rs"]
+pub mod stack;
 pub mod timing;
