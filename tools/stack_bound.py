@@ -25,8 +25,11 @@ class Instruction:
     """Its word, its operands, and the function that its operand names, if it names one."""
 
     def __init__(self, word, operands):
-        self.word = word
-        self.operands = operands
+        if word in ("notrack", "bnd"):
+            word, _, operands = operands.partition(" ")
+        # Some versions of objdump say the width of what has no other.
+        self.word = {"%sq" % plain: plain for plain in ("push", "pop", "call", "ret", "jmp", "leave")}.get(word, word)
+        self.operands = operands.strip()
         self.names = None
 
 
@@ -48,18 +51,15 @@ def functions(text):
 def moved(name, at, instruction):
     """By how many bytes an instruction moves the stack pointer down."""
     word, operands = instruction.word, instruction.operands
-    if word.startswith("push"):
-        return ADDRESS_BYTES
-    if word.startswith("pop"):
-        return -ADDRESS_BYTES
-    if not operands.endswith(",%rsp"):
-        return 0
+    if word in ("push", "pop"):
+        return ADDRESS_BYTES if word == "push" else -ADDRESS_BYTES
     number = re.match(r"^\$0x([0-9a-f]+),%rsp$", operands)
-    if word not in ("sub", "add") or not number:
-        if word in ("cmp", "test"):
-            return 0
+    if word in ("sub", "add") and number:
+        return int(number.group(1), 16) * (1 if word == "sub" else -1)
+    writes = operands.endswith(",%rsp") and word not in ("cmp", "test")
+    if writes or word in ("leave", "enter") or word.startswith(("pushf", "popf")) or (word == "xchg" and "%rsp" in operands):
         raise Fault("%s+0x%x: %s %s" % (name, at, word, operands))
-    return int(number.group(1), 16) * (1 if word == "sub" else -1)
+    return 0
 
 
 def follow(name, code):
@@ -91,7 +91,7 @@ def successors(name, code, after, at, deep, tables):
     """Where the code goes on from an instruction, and how deep the stack is there."""
     instruction = code[at]
     if instruction.word == "ret":
-        if deep != ADDRESS_BYTES:
+        if deep != ADDRESS_BYTES or instruction.operands:
             raise Fault("%s+0x%x: returns at depth %d" % (name, at, deep))
         return []
     if instruction.word == "ud2":

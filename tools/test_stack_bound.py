@@ -43,6 +43,7 @@ class StackBound(unittest.TestCase):
         self.assertEqual(self.bound(code("f", "ret")), 8)
         self.assertEqual(self.bound(code("f", "push %rbx", "pop %rbx", "ret")), 16)
         self.assertEqual(self.bound(code("f", *LEAF)), 8 + 8 + 32 + 16)
+        self.assertEqual(self.bound(code("f", "pushq %rbx", "popcnt %rax,%rcx", "mov %rsp,%rax", "cmp %rax,%rsp", "popq %rbx", "retq")), 16)
 
     def test_red_zone(self):
         self.assertEqual(self.bound(code("f", "mov %al,-0x80(%rsp,%rcx,1)", "ret")), 8 + 128)
@@ -59,12 +60,17 @@ class StackBound(unittest.TestCase):
         self.assertEqual(self.bound(code("f", *deep)), 8 + 256)
 
     def test_table_of_jumps(self):
-        self.assertEqual(self.bound(code("f", "push %rbx", "jmp *%rax", "call 9 > .text.g", "jmp @5", "nop", "pop %rbx", "ret"), code("g", *LEAF)), 16 + 64)
+        for jump in ("jmp *%rax", "notrack jmp *%rax"):
+            ways = ("push %rbx", jump, "call 9 > .text.g", "jmp @5", "nop", "pop %rbx", "ret")
+            self.assertEqual(self.bound(code("f", *ways), code("g", *LEAF)), 16 + 64)
 
     def test_not_followed(self):
         self.refused("sub %rax,%rsp", code("f", "sub %rax,%rsp", "ret"))
         self.refused("and $0xffffffffffffffe0,%rsp", code("f", "and $0xffffffffffffffe0,%rsp", "ret"))
         self.refused("returns at depth 16", code("f", "push %rax", "ret"))
+        self.refused("returns at", code("f", "ret $0x8"))
+        for moving in ("leave", "mov %rbp,%rsp", "lea 0x8(%rsp),%rsp", "xchg %rsp,%rax", "pushfq", "enter $0x10,$0x0"):
+            self.refused(moving, code("f", moving, "ret"))
         self.refused("two depths", code("f", "push %rax", "jmp @0"))
         self.refused("calls itself", code("f", "push %rax", "call 0 > .text.f", "pop %rax", "ret"))
         self.refused("call *%rax", code("f", "push %rax", "call *%rax", "pop %rax", "ret"))
