@@ -31,7 +31,7 @@ four-digits a b c d h i j k =
     middle : (low t high : ℕ) → low < 2097152 → t < 16 → (low + 2097152 * t + 33554432 * high) / 2097152 % 16 ≡ t
     middle low t high l m = omega arith
 
-pub packed-four : (p : ℕ → Bool) (from : ℕ) → packed p from 4 ≡ ((boolByte (p (from + 3)) * 2 + boolByte (p (from + 2))) * 2 + boolByte (p (from + 1))) * 2 + boolByte (p from)
+packed-four : (p : ℕ → Bool) (from : ℕ) → packed p from 4 ≡ ((boolByte (p (from + 3)) * 2 + boolByte (p (from + 2))) * 2 + boolByte (p (from + 1))) * 2 + boolByte (p from)
 unfolding packed
 packed-four p from =
     let one : suc from ≡ from + 1 = omega arith in
