@@ -46,7 +46,7 @@ fn hit_entries(ram: &[u8], table: u8, quarter: usize, at: usize, hits: &mut [u8]
 }
 
 // Four hits as a number, the first in the lowest digit. Their bytes make one number; moved up by 21, 14, 7 and 0 digits and added up,
-// that is one product, they meet as its digits 21 to 24, and no two at another digit.
+// in one product, the four stand side by side as its digits 21 to 24, and no two fall on one digit.
 fn four_hits(hits: &[u8], i: usize) -> u64
     requires { ⌜ i + 4 ≤ length (now hits) ⌝ }
     ensures { λ r. ⌜ r < 16 ⌝ }
