@@ -7,7 +7,7 @@ array may be: inside a value of the record's own types; a copy of an array field
 made of. Anything else, and a call that cannot be followed, is a fault: exit status 1. Text that it cannot read: exit status 2."""
 import sys
 
-from mir import Unreadable, items, nodes, pair, program, text_of
+from mir import Unreadable, items, pair, places, program, statements, text_of
 
 RECORD = "board::record::Board"
 SCALARS = {"tyInt", "tyFloat", "tyBool", "tyUnit", "tyPtr", "tyRef"}
@@ -20,6 +20,8 @@ def parts(type_, types):
         return []
     if head == "tyStruct":
         return [(None, at, part) for at, part in enumerate(items(type_[2], "tcons", "tnil"))]
+    if head == "tyEnum":
+        return [(None, at, part) for case in items(type_[2], "ttcons", "ttnil") for at, part in enumerate(items(case, "tcons", "tnil"))]
     if head != "tyNamed":
         raise Unreadable("a type that is not known: %s" % str(type_)[:80])
     name, _ = pair(type_[1])
@@ -85,32 +87,27 @@ class Walk:
 
     def array_local(self, function, number):
         """Why an array among the locals is the record's; none if it is not."""
-        sources, uses = [], []
-        for node in nodes(function.body):
-            if node[0] == "assign" and node[1] == ["place", str(number), "lnil"]:
-                sources.append(node[2])
-            elif node[0] == "call" and node[3][1] == str(number):
+        whole = ["place", str(number), "lnil"]
+        sources, uses, mentions = [], [], 0
+        for node in statements(function.body):
+            if node[0] == "call" and node[3][1] == str(number):
                 return None
-            elif node[0] == "assign" and node[2][0] == "aggregate":
-                uses += self.uses_in(function, node, number)
-        if sources and all(s[0] == "rvOpd" and s[1][0] in ("copy", "move") and self.is_record_array(function, s[1][1]) for s in sources):
+            if node[0] == "assign" and node[1] == whole:
+                sources.append(node[2])
+            mentions += sum(1 for place in places(node[2]) if place[1] == str(number))
+            if node[0] == "assign" and node[2][0] == "aggregate":
+                uses += self.uses_in(function, node, whole)
+        if sources and all(s[0] == "rvOpd" and s[1][0] == "copy" and self.is_record_array(function, s[1][1]) for s in sources):
             return "a copy of the record's"
-        if sources and all(s[0] == "aggregate" for s in sources) and uses and all(uses) and len(uses) == self.mentions(function, number):
+        if sources and all(s[0] == "aggregate" for s in sources) and uses and all(uses) and len(uses) == mentions:
             return "made to be the record's"
         return None
 
-    def uses_in(self, function, node, number):
+    def uses_in(self, function, node, whole):
         """For each time that a value is made with the local: whether it becomes the record's array field."""
         type_, _ = self.type_at(function, node[1])
         named = pair(type_[1])[0] if type_ is not None and type_[0] == "tyNamed" else None
-        operands = items(node[2][1])
-        return [(named, at) in self.fields for at, operand in enumerate(operands) if operand in (["copy", ["place", str(number), "lnil"]], ["move", ["place", str(number), "lnil"]])]
-
-    @staticmethod
-    def mentions(function, number):
-        """How often the local stands anywhere but as what is assigned to."""
-        targets = sum(1 for n in nodes(function.body) if n[0] == "assign" and n[1][1] == str(number))
-        return sum(1 for n in nodes(function.body) if n[0] == "place" and n[1] == str(number)) - targets
+        return [(named, at) in self.fields for at, operand in enumerate(items(node[2][1])) if operand == ["copy", whole]]
 
     def check(self, function):
         """The arrays among a function's locals, one line for each; faults are kept."""
@@ -131,7 +128,7 @@ class Walk:
     def calls(self, function):
         """The functions that a function calls. A call that cannot be followed is a fault."""
         found = []
-        for node in nodes(function.body):
+        for node in statements(function.body):
             if node[0] != "call":
                 continue
             if node[1][0] != "direct" or node[1][1][0] != "fnRef":

@@ -92,11 +92,32 @@ def program(text):
     return functions, types
 
 
-def nodes(tree):
-    """Every bracket of a tree, outermost first."""
-    rest = [tree]
+# Statements by how many of their parts, the last ones, are statements again.
+INNER = {"seq": 2, "block": 1, "loop": 1, "if": 2, "switch": 1, "arm": 2, "default": 1, "exit": 0}
+VALUES = {"rvOpd", "op1", "op2", "addrOf", "aggregate", "repeat"}
+
+
+def statements(body):
+    """Every assignment and every call of a body, in order. A statement of another form is not passed over."""
+    rest = [body]
     while rest:
         node = rest.pop()
-        if isinstance(node, list):
+        if node in ("skip", "return", "noDefault"):
+            continue
+        if node[0] == "call" or (node[0] == "assign" and node[2][0] in VALUES):
             yield node
-            rest.extend(reversed(node))
+        elif node[0] in INNER:
+            rest.extend(reversed(node[len(node) - INNER[node[0]] :]))
+        else:
+            raise Unreadable("a statement that is not known: %s" % str(node)[:80])
+
+
+def places(node):
+    """Every place that stands in a statement."""
+    rest = [node]
+    while rest:
+        part = rest.pop()
+        if isinstance(part, list):
+            if part[0] == "place":
+                yield part
+            rest.extend(reversed(part))

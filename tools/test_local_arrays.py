@@ -65,9 +65,15 @@ class LocalArrays(unittest.TestCase):
         self.refused("b has a local array [u8; 90]", function("a", ["tyUnit"], call("b")), function("b", ["tyUnit", LINE], made))
         self.refused("c has a local array [u8; 90]", function("a", ["tyUnit"], call("b")), function("b", ["tyUnit"], call("c")), function("c", ["tyUnit", LINE]))
 
-    def test_call_in_a_loop(self):
-        inner = "(block (loop (seq (if (copy (place 1 lnil)) skip (exit 1)) %s)))" % call("b")
-        self.refused("b has a local array [u8; 90]", function("a", ["tyUnit", "tyBool"], inner), function("b", ["tyUnit", LINE]))
+    def test_call_further_in(self):
+        for inner in (
+            "(block (loop (seq (if (copy (place 1 lnil)) skip (exit 1)) %s)))",
+            "(if (copy (place 1 lnil)) %s skip)",
+            "(if (copy (place 1 lnil)) return %s)",
+            "(switch (copy (place 1 lnil)) (arm (lcons 0 lnil) %s noDefault))",
+            "(switch (copy (place 1 lnil)) (arm (lcons 0 lnil) skip (default %s)))",
+        ):
+            self.refused("b has a local array [u8; 90]", function("a", ["tyUnit", "tyBool"], inner % call("b")), function("b", ["tyUnit", LINE]))
 
     def test_array_as_result(self):
         self.refused("a has a local array", function("a", ["tyUnit", LINE], call("b", "(place 1 lnil)")), function("b", ["tyUnit"]))
@@ -77,6 +83,7 @@ class LocalArrays(unittest.TestCase):
         own = {"a::Line": fields("(tyInt 8)", LINE)}
         self.refused("inside a value", function("a", ["tyUnit", '(tyNamed (pair "a::Line" lnil))'], types=own))
         self.refused("inside a value", function("a", ["tyUnit", '(tyStruct "tuple" %s)' % list_of([LINE], "tcons", "tnil")]))
+        self.refused("inside a value", function("a", ["tyUnit", '(tyEnum "either" %s)' % list_of([list_of([LINE], "tcons", "tnil")], "ttcons", "ttnil")]))
         either = {"a::Either": "(variants %s)" % list_of(["tnil", list_of([LINE], "tcons", "tnil")], "ttcons", "ttnil")}
         self.refused("inside a value", function("a", ["tyUnit", '(tyNamed (pair "a::Either" lnil))'], types=either))
         # As large as the record's, but not the record's.
@@ -106,6 +113,8 @@ class LocalArrays(unittest.TestCase):
             with contextlib.redirect_stderr(io.StringIO()):
                 self.assertEqual(local_arrays.main(["a"], text), 2, text)
         self.assertEqual(self.run_on(function("a", ["tyUnit", "(tyVector (tyInt 8))"]))[0], 2)
+        self.assertEqual(self.run_on(function("a", ["tyUnit"], "(room (place 0 lnil) 90)"))[0], 2)
+        self.assertEqual(self.run_on(function("a", ["tyUnit"], "(assign (place 0 lnil) (room 90))"))[0], 2)
 
 
 if __name__ == "__main__":
