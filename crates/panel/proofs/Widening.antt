@@ -7,9 +7,9 @@ use native.Mathlib.Nat.{div-div-eq-div-mul, eq-or-lt-of-le, le-of-suc-le-suc, no
 use native.Mathlib.Omega.{arith}
 use mathlib.Core.Logic.{⊎-elim}
 use lib.Dec.{lit<}
-use borrow.Author.Count.{below-none, below-more}
 use lib.ListN.{length, getD, set, length-set}
-use lib.Seq.{ext-getD, getD-set-same, getD-set-other}
+use lib.Seq.{ext-getD}
+use Rattle.facts.proofs.Filled.{Filled, filled-more}
 use Rattle.panel.specs.Widen.{pixelOf, digits, byteOf, doubledByte, doubledPair, tabulate, widenedAt, widened, pixelIn}
 use Rattle.panel.proofs.Table.{length-tabulate, entry}
 
@@ -78,21 +78,6 @@ pixel-twice line j h =
     rw
     (getD-widened line (j / 8) (omega arith), pixel-doubled (getD line (j / 8 / 2) 0) (j / 8 % 2) (j % 8) (omega arith), byte, place)
 
--- the first n bytes of the wide line are written
-unfoldable pub Filled : List ℕ → List ℕ → ℕ → Type 0
-Filled line out n = (k : ℕ) → k < n → getD out k 0 ≡ widenedAt line k
-
-pub filled-none : (line out : List ℕ) → Filled line out 0
-unfolding Filled
-filled-none line out = below-none (λ k. getD out k 0 ≡ widenedAt line k)
-
-pub filled-more : (line out : List ℕ) (n v : ℕ) → n < length out → v ≡ widenedAt line n → Filled line out n → Filled line (set out n v) (n + 1)
-unfolding Filled
-filled-more line out n v h e f =
-    below-more (λ k. getD (set out n v) k 0 ≡ widenedAt line k) n
-    (λ k l. getD-set-other out n k v 0 (λ q. omega arith) ∙ f k l)
-    (getD-set-same out n v 0 h ∙ e)
-
 -- byte n of the wide line, by the byte i and the half s that it comes from
 side : (line : List ℕ) (n i s : ℕ) → n / 2 ≡ i → n % 2 ≡ s → widenedAt line n ≡ doubledByte (getD line i 0) s
 unfolding widenedAt
@@ -116,11 +101,11 @@ pair-bytes line table i h e =
 -- the wide line with the two bytes of byte n written
 filled-pair : (line out out' : List ℕ) (n : ℕ) → n < 90 → length out ≡ 180
     → out' ≡ set (set out (2 * n) (widenedAt line (2 * n))) (2 * n + 1) (widenedAt line (2 * n + 1))
-    → Filled line out (2 * n) → (length out' ≡ 180) × Filled line out' (2 * (n + 1))
+    → Filled (widenedAt line) out (2 * n) → (length out' ≡ 180) × Filled (widenedAt line) out' (2 * (n + 1))
 filled-pair line out out' n h l e f = rw (e, next) (
   simp length-set l,
-  filled-more line (set out (2 * n) (widenedAt line (2 * n))) (2 * n + 1) (widenedAt line (2 * n + 1)) (simp length-set (omega arith)) refl
-      (filled-more line out (2 * n) (widenedAt line (2 * n)) (omega arith) refl f),
+  filled-more (widenedAt line) (set out (2 * n) (widenedAt line (2 * n))) (2 * n + 1) (widenedAt line (2 * n + 1)) (simp length-set (omega arith)) refl
+      (filled-more (widenedAt line) out (2 * n) (widenedAt line (2 * n)) (omega arith) refl f),
 )
   where
     next : 2 * (n + 1) ≡ 2 * n + 1 + 1
@@ -134,8 +119,8 @@ pub filled-three :
     a ≡ set (set out (2 * n) (widenedAt line (2 * n))) (2 * n + 1) (widenedAt line (2 * n + 1)) →
     b ≡ set (set a (2 * (n + 1)) (widenedAt line (2 * (n + 1)))) (2 * (n + 1) + 1) (widenedAt line (2 * (n + 1) + 1)) →
     c ≡ set (set b (2 * (n + 2)) (widenedAt line (2 * (n + 2)))) (2 * (n + 2) + 1) (widenedAt line (2 * (n + 2) + 1)) →
-    Filled line out (2 * n) →
-    Filled line c (2 * (n + 3))
+    Filled (widenedAt line) out (2 * n) →
+    Filled (widenedAt line) c (2 * (n + 3))
 filled-three line out a b c n h l e f g q =
     let p = filled-pair line out a n (omega arith) l e q in
     let r = filled-pair line a b (n + 1) (omega arith) (p .0) f (p .1) in
@@ -144,11 +129,7 @@ filled-three line out a b c n h l e f g q =
     let three : n + 2 + 1 ≡ n + 3 = omega arith in
     rw three at (s .1)
 
--- as far as another number that is the same
-pub filled-to : (line out : List ℕ) (m n : ℕ) → m ≡ n → Filled line out m → Filled line out n
-filled-to line out m n e f = rw e at f
-
-pub filled-all : (line out : List ℕ) → length out ≡ 180 → Filled line out 180 → out ≡ widened line
+pub filled-all : (line out : List ℕ) → length out ≡ 180 → Filled (widenedAt line) out 180 → out ≡ widened line
 unfolding Filled
 filled-all line out h f =
     ext-getD 0 out (widened line) (h ∙ sym (length-widened line))

@@ -5,7 +5,6 @@ use mathlib.Core.Bool.{Bool, true, false}
 use mathlib.Core.List.{List}
 use native.Mathlib.Nat.{add-zero}
 use native.Mathlib.Omega.{arith}
-use borrow.Author.Count.{below-none, below-more}
 use borrow.Author.Tests.{eqb-true, eqb-false}
 use lib.Dec.{eqb}
 use lib.ListN.{length, getD, set}
@@ -76,26 +75,11 @@ fours-end p i m z h =
     let a : 4 * i ≡ 0 = omega arith in
     h ∙ rw a
 
--- hit k is p's, for each k below n
-unfoldable pub Told : (ℕ → Bool) → List ℕ → ℕ → Type 0
-Told p hits n = (k : ℕ) → k < n → getD hits k 0 ≡ boolByte (p k)
-
-pub told-none : (p : ℕ → Bool) (hits : List ℕ) → Told p hits 0
-unfolding Told
-told-none p hits = below-none (λ k. getD hits k 0 ≡ boolByte (p k))
-
-pub told-more : (p : ℕ → Bool) (hits : List ℕ) (e v : ℕ) → e < length hits → v ≡ boolByte (p e) → Told p hits e → Told p (set hits e v) (e + 1)
-unfolding Told
-told-more p hits e v h q f =
-    below-more (λ k. getD (set hits e v) k 0 ≡ boolByte (p k)) e
-    (λ k b. getD-set-other hits e k v 0 (λ z. omega arith) ∙ f k b)
-    (getD-set-same hits e v 0 h ∙ q)
-
 -- ---- the entries of the table, in quarters of 64
 
--- whether an index is among the pixel bytes of entry k of a quarter
-unfoldable pub shows : List ℕ → ℕ → ℕ → ℕ → ℕ → Bool
-shows ram table quarter at k = pixelTouched (pointerWord ram table 0 (64 * quarter + k)) at
+-- the hit of entry k of a quarter: whether an index is among its pixel bytes
+unfoldable pub hitOf : List ℕ → ℕ → ℕ → ℕ → ℕ → ℕ
+hitOf ram table quarter at k = boolByte (pixelTouched (pointerWord ram table 0 (64 * quarter + k)) at)
 
 entry-half : (table j : ℕ) → entryIndex table 0 j / 2 ≡ 256 * table + j % 256
 unfolding entryIndex entryOf

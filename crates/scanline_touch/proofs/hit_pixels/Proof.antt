@@ -7,18 +7,19 @@ use borrow.Author.Needs.{needs}
 use lib.ListN.{length, length-set}
 use mir.Val.{boolByte}
 use Rattle.scanline.specs.Drawing.{pixelTouched}
-use Rattle.scanline_touch.proofs.Hits.{Told, told-none, told-more, shows}
+use Rattle.facts.proofs.Filled.{Filled, filled-none, filled-more}
+use Rattle.scanline_touch.proofs.Hits.{hitOf}
 use Rattle.scanline_touch.proofs.hit_pixels.Statement.{statement}
 use Rattle.scanline_touch.proofs.hit_pixels.Tie as tie
 
 abbrev Inv-loop : tie.InvT-loop
-Inv-loop ram table quarter at hits₀ e₀ hits e = (e ≤ 64) × (length hits ≡ 64) × Told (shows ram table quarter at) hits e
+Inv-loop ram table quarter at hits₀ e₀ hits e = (e ≤ 64) × (length hits ≡ 64) × Filled (hitOf ram table quarter at) hits e
 
 abbrev μ-loop : tie.MeasureT-loop
 μ-loop ram table quarter at hits₀ e₀ hits e = 64 - e
 
 loop-holds : tie.Need-loop-holds Inv-loop μ-loop
-loop-holds c = (search needs, c .before .before .pre .2, told-none _ _)
+loop-holds c = (search needs, c .before .before .pre .2, filled-none _ _)
 
 mul-pointer-word : tie.Need-mul-pointer-word Inv-loop μ-loop
 mul-pointer-word c = omega arith
@@ -48,20 +49,20 @@ loop-less : tie.Need-loop-less Inv-loop μ-loop
 loop-less c = omega arith
 
 loop-again : tie.Need-loop-again Inv-loop μ-loop
-unfolding shows
+unfolding hitOf
 loop-again c =
     let s = c .before .before .before .loop in
     let at = c .before .before .before .before .before .before .args .at in (
       omega arith,
       simp length-set (s .inv .1),
-      told-more _ (s .hits) (s .e) _ (omega arith) (ap boolByte (c .pixel-hit .ensures ∙ ap (λ (w : ℕ). pixelTouched w at) (c .before .pointer-word .ensures))) (s .inv .2),
+      filled-more _ (s .hits) (s .e) _ (omega arith) (ap boolByte (c .pixel-hit .ensures ∙ ap (λ (w : ℕ). pixelTouched w at) (c .before .pointer-word .ensures))) (s .inv .2),
     )
 
 same-length : tie.Need-same-length Inv-loop μ-loop
 same-length c = omega arith
 
 returns : tie.Need-returns Inv-loop μ-loop
-unfolding shows Told
+unfolding hitOf Filled
 returns c =
     let s = c .before .loop in
     let end : s .e ≡ 64 = omega arith in

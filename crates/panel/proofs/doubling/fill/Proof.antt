@@ -5,12 +5,14 @@ use mathlib.Core.Path.{_≡_, _∙_}
 use native.Mathlib.Omega.{arith}
 use borrow.Author.Needs.{needs}
 use lib.ListN.{length}
-use Rattle.panel.proofs.Widening.{Filled, filled-none, filled-to, filled-all}
+use Rattle.facts.proofs.Filled.{Filled, filled-none, filled-to}
+use Rattle.panel.specs.Widen.{widenedAt}
+use Rattle.panel.proofs.Widening.{filled-all}
 use Rattle.panel.proofs.doubling.fill.Statement.{statement}
 use Rattle.panel.proofs.doubling.fill.Tie as tie
 
 abbrev Inv-loop : tie.InvT-loop
-Inv-loop line out₀ table i₀ out i = (i ≤ 10) × (length out ≡ 180) × Filled line out (2 * (9 * i))
+Inv-loop line out₀ table i₀ out i = (i ≤ 10) × (length out ≡ 180) × Filled (widenedAt line) out (2 * (9 * i))
 
 abbrev μ-loop : tie.MeasureT-loop
 μ-loop line out₀ table i₀ out i = 10 - i

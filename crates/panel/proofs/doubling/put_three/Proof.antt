@@ -1,7 +1,8 @@
 -- `put_three` meets its contract: three pairs in a row.
 -- Assumes nothing.
 use denote.Ref.{now}
-use Rattle.panel.proofs.Widening.{Filled, filled-three}
+use Rattle.facts.proofs.Filled.{Filled}
+use Rattle.panel.proofs.Widening.{filled-three}
 use borrow.Author.Needs.{needs}
 use Rattle.panel.proofs.doubling.put_three.Statement.{statement}
 use Rattle.panel.proofs.doubling.put_three.Tie as tie
