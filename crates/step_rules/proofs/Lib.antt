@@ -4,3 +4,4 @@ pub mod ByKind
 pub mod Decoding
 pub mod Good
 pub mod Ports
+pub mod ShortCuts

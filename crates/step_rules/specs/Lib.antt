@@ -3,3 +3,4 @@ pub mod Answers
 pub mod Decoding
 pub mod Kinds
 pub mod Ports
+pub mod ShortCuts
