@@ -5,10 +5,27 @@
  * accept it refuses with a number, and then it changes nothing: not the record, not lent memory
  * (but joyce_power_on, refused with 6, leaves a record of zeros). Lent memory must be there for the
  * length given, and is not kept; memory that a function writes must not overlap other lent memory.
- * No pointer may be null, with length 0 neither: any other address serves then.
+ * A pointer to a record is never null; any other may be where its length is 0: NULL and 0 lend
+ * nothing.
  *
- * A call uses at most 1,024 bytes of stack, its return address and stacked arguments included, and
- * nothing is allocated. (docs/DECISIONS.md, 41, has the number of each function.)
+ * The library is for x86-64 (System V calls, 64 bits: i386 and x32 fail the asserts below). It uses
+ * SSE2 registers and the 128 bytes below the stack pointer, the red zone, as that convention lets a
+ * function: an interrupt on the same stack keeps clear of both. It calls one function that it does
+ * not have, memset; any C library has it, and firmware without one brings its own. A call uses at
+ * most 1,024 bytes of stack, its return address and stacked arguments included (docs/DECISIONS.md,
+ * 41, has the number of each function), and allocates nothing.
+ *
+ * It has no variables, so calls at the same time, from threads or an interrupt, are safe where none
+ * writes what another is lent. A record has no pointer in it: it may be copied, and saved with its
+ * RAM, in this machine's byte order, low first. What comes back is looked at like any record. The
+ * dirty lines tell of one picture: after a return to saved state draw once, then refresh.
+ *
+ * Wiring a Z80: docs/WIRING.md, and examples/z80 is a whole host. In short, each read, write, IN and
+ * OUT of the processor is a step, and so is each 64 us (256 T-states) a scan. In boot mode opcode
+ * and operand bytes are fetches, not the opcode alone; a processor that cannot tell operands from
+ * data sends every read in boot mode as a fetch. A port is the low eight bits of its address. INT
+ * is a level, that of the latest reply; NMI is in one reply alone. After an out to F8 whose value
+ * mod 16 is 1, reset the processor too: the reply does not say so. Wait states are not modelled.
  */
 #ifndef JOYCE_H
 #define JOYCE_H
@@ -85,6 +102,7 @@ typedef struct {
     joyce_lines dirty;                                                          /* to be redrawn (document 01: noted) */
 } joyce_board;
 
+JOYCE_ASSERT(sizeof(size_t) == 8);
 JOYCE_ASSERT(sizeof(joyce_sizes) == 2);
 JOYCE_ASSERT(offsetof(joyce_sizes, total) == 1);
 JOYCE_ASSERT(sizeof(joyce_paging) == 5);
@@ -131,9 +149,13 @@ uint64_t joyce_power_on(joyce_board *board, uint8_t internal, uint8_t total, uin
  * (joyce_draw says where they are).
  * NMI is shown once; the route is none afterwards. After a refusal INT and NMI are those of the
  * record, off for 1. The boot stream is at most 1,024 bytes and only read by a fetch in boot mode;
- * where there is none, boot_len is 0 and boot is any address but null. A kind outside 1 to 9, a
- * number or value wider than the kind takes, and one other than 0 that it does not take are refused
- * with 3, after 1 and 2. */
+ * where there is none, NULL and 0. A kind outside 1 to 9, a number or value wider than the kind
+ * takes, and one other than 0 that it does not take are refused with 3, after 1 and 2.
+ *
+ * What a host may do without a step: read, and fetch out of boot mode, from the lent RAM at the read
+ * block (joyce_reach) and place, and store at a write block of 8 and above. Such a step would do
+ * just that and leave the record and INT as they are. The blocks of a bank stand until an out to F0
+ * to F4 or a power-on. */
 uint64_t joyce_step(joyce_board *board, uint32_t kind, uint32_t number, uint32_t value,
                     uint8_t *ram, size_t ram_len, const uint8_t *boot, size_t boot_len);
 

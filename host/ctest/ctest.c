@@ -8,7 +8,6 @@
 
 static uint8_t ram[8 * JOYCE_BLOCK];
 static uint8_t picture[JOYCE_PICTURE], other[JOYCE_PICTURE];
-static const uint8_t nothing[1] = {0};   /* lent with length 0 */
 static uint8_t one[JOYCE_ARCHIVE_LENGTH(1)], two[JOYCE_ARCHIVE_LENGTH(2) + 8];
 static int checks, failures;
 
@@ -21,7 +20,7 @@ static void check(const char *what, long got, long wanted) {
 }
 
 static uint64_t step(joyce_board *board, uint32_t kind, uint32_t number, uint32_t value) {
-    return joyce_step(board, kind, number, value, ram, sizeof ram, nothing, 0);
+    return joyce_step(board, kind, number, value, ram, sizeof ram, NULL, 0);
 }
 
 static void check_power_on(joyce_board *board) {
@@ -60,7 +59,7 @@ static void check_steps(joyce_board *board) {
     check("NMI once", joyce_nmi(step(board, JOYCE_SCAN, 0, 0)), 0);
     check("external line", joyce_int(step(board, JOYCE_EXTERNAL_LINE, 0, 1)), 1);
     check("kind 10", joyce_refusal(step(board, 10, 0, 0)), JOYCE_BAD_NUMBER);
-    check("short RAM", joyce_refusal(joyce_step(board, JOYCE_SCAN, 0, 0, ram, sizeof ram - 1, nothing, 0)), JOYCE_BAD_LENGTH);
+    check("short RAM", joyce_refusal(joyce_step(board, JOYCE_SCAN, 0, 0, ram, sizeof ram - 1, NULL, 0)), JOYCE_BAD_LENGTH);
 }
 
 static void check_picture(joyce_board *board) {
@@ -101,6 +100,25 @@ static void check_block_end(joyce_board *board) {
     check("its byte 72", picture[9 * JOYCE_LINE + 72], 0x72);
 }
 
+/* NULL with length 0 is nothing lent, and refused as any other wrong length. */
+static void check_nothing_lent(joyce_board *board) {
+    check("no RAM to step on", joyce_refusal(joyce_step(board, JOYCE_SCAN, 0, 0, NULL, 0, NULL, 0)), JOYCE_BAD_LENGTH);
+    check("no RAM to draw", joyce_refusal(joyce_draw(board, NULL, 0, picture, sizeof picture)), JOYCE_BAD_LENGTH);
+    check("no picture to draw", joyce_refusal(joyce_draw(board, ram, sizeof ram, NULL, 0)), JOYCE_BAD_LENGTH);
+    check("no RAM to refresh", joyce_refusal(joyce_refresh(board, NULL, 0, picture, sizeof picture)), JOYCE_BAD_LENGTH);
+    check("no picture to refresh", joyce_refusal(joyce_refresh(board, ram, sizeof ram, NULL, 0)), JOYCE_BAD_LENGTH);
+    check("no pictures", joyce_refusal(joyce_first_difference(NULL, 0, NULL, 0)), JOYCE_BAD_LENGTH);
+    check("no lines", joyce_widen(NULL, 0, NULL, 0), JOYCE_BAD_LENGTH);
+    check("no room", joyce_refusal(joyce_archive_start(NULL, 0)), JOYCE_NO_ROOM);
+    check("no archive", joyce_refusal(joyce_archive_count(NULL, 0)), JOYCE_BAD_ARCHIVE);
+    check("no archive, entry", joyce_refusal(joyce_archive_entry(NULL, 0, 0)), JOYCE_BAD_ARCHIVE);
+    check("no archive, find", joyce_refusal(joyce_archive_find(NULL, 0, 1, 1)), JOYCE_BAD_ARCHIVE);
+    check("no picture to read", joyce_refusal(joyce_archive_read(NULL, 0, 0, NULL, 0)), JOYCE_BAD_LENGTH);
+    uint64_t reply = joyce_archive_add(NULL, 0, 1, 1, 256, picture, sizeof picture, NULL, 0);
+    check("no archive to add to", joyce_refusal(reply), JOYCE_BAD_ARCHIVE);
+    check("no picture to add", joyce_refusal(joyce_archive_add(NULL, 0, 1, 1, 256, NULL, 0, NULL, 0)), JOYCE_BAD_LENGTH);
+}
+
 static void check_bad_record(joyce_board *board) {
     board->clock.counter = 16;
     check("bad record", joyce_refusal(joyce_draw(board, ram, sizeof ram, other, sizeof other)), JOYCE_BAD_RECORD);
@@ -127,7 +145,9 @@ static void check_numbers(void) {
 
 /* The number of four bytes, low first. */
 static long number_at(const uint8_t *bytes, size_t at) {
-    return (long)(bytes[at] | bytes[at + 1] << 8 | bytes[at + 2] << 16 | (uint32_t)bytes[at + 3] << 24);
+    uint32_t number = 0;
+    for (size_t i = 4; i > 0; i--) number = number << 8 | bytes[at + i - 1];
+    return (long)number;
 }
 
 static uint64_t add(const uint8_t *archive, size_t len, uint32_t bench, uint32_t number, uint32_t shown,
@@ -156,6 +176,7 @@ static void check_archive_add(const uint8_t *none) {
     check("bench 65,536", joyce_refusal(add(none, 20, 65536, 1, 256, one, sizeof one)), JOYCE_BAD_FRAME);
     check("shown 255", joyce_refusal(add(none, 20, 1, 1, 255, one, sizeof one)), JOYCE_BAD_FRAME);
     check("short room", joyce_refusal(add(none, 20, 1, 1, 256, one, sizeof one - 1)), JOYCE_NO_ROOM);
+    check("no room", joyce_refusal(add(none, 20, 1, 1, 256, NULL, 0)), JOYCE_NO_ROOM);
     uint64_t reply = joyce_archive_add(none, 20, 1, 1, 256, picture, sizeof picture - 1, one, sizeof one);
     check("short picture", joyce_refusal(reply), JOYCE_BAD_LENGTH);
     reply = add(none, 20, 65535, 0xFFFFFFFFu, 256, one, sizeof one);
@@ -195,7 +216,6 @@ static void check_archive_read(void) {
     check("too long", joyce_refusal(joyce_archive_count(two, len + 1)), JOYCE_BAD_ARCHIVE);
     two[len - 1] = 1;
     check("unshown not zero", joyce_refusal(joyce_archive_find(two, len, 12, 345)), JOYCE_BAD_ARCHIVE);
-    check("no archive", joyce_refusal(joyce_archive_count(nothing, 0)), JOYCE_BAD_ARCHIVE);
 }
 
 static void check_archives(void) {
@@ -213,6 +233,7 @@ int main(void) {
     check_steps(&board);
     check_picture(&board);
     check_block_end(&board);
+    check_nothing_lent(&board);
     check_bad_record(&board);
     check_numbers();
     check_archives();

@@ -6,7 +6,7 @@ here=$(cd "$(dirname "$0")" && pwd)
 lib=${JOYCE_LIB:-$here/../../target/staticlib}/libjoyce.a
 out=$(mktemp -d)
 trap 'rm -rf "$out"' EXIT
-strict="-Wall -Wextra -Werror -pedantic"
+strict="-Wall -Wextra -Wpedantic -Wconversion -Werror"
 # shellcheck disable=SC2086
 ${CC:-cc} -std=c11 $strict -I "$here/../../include" "$here/ctest.c" -o "$out/c" "$lib" ${JOYCE_LINK:-}
 "$out/c"
