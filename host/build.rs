@@ -1,5 +1,5 @@
-//! Tells cargo where the board library is, and makes a table of the functions that the header has for it, unless the stand-in
-//! takes its place.
+//! Makes a table of the functions that the header has, for `joyce stack`; not where the stand-in takes the library's
+//! place.
 
 #[path = "src/header.rs"]
 mod header;
@@ -11,32 +11,13 @@ use std::fs;
 use std::path::PathBuf;
 
 fn main() {
-    println!("cargo:rerun-if-env-changed=JOYCE_LIB");
+    println!("cargo:rerun-if-changed=build.rs");
     if env::var_os("CARGO_FEATURE_STANDIN").is_some() {
         return;
     }
-    let folder = library_folder();
-    let library = folder.join("libjoyce.a");
-    println!("cargo:rerun-if-changed={}", library.display());
-    if !library.is_file() {
-        println!(
-            "cargo:warning={} is missing; set JOYCE_LIB to its folder or use --features standin",
-            library.display()
-        );
-    }
-    println!("cargo:rustc-link-search=native={}", folder.display());
-    println!("cargo:rustc-link-lib=static=joyce");
     if let Err(error) = write_table() {
         eprintln!("{error}");
         std::process::exit(1);
-    }
-}
-
-fn library_folder() -> PathBuf {
-    match env::var_os("JOYCE_LIB") {
-        // The linker runs elsewhere, so a folder named from here is made whole.
-        Some(folder) => fs::canonicalize(&folder).unwrap_or_else(|_| PathBuf::from(folder)),
-        None => folder_named("CARGO_MANIFEST_DIR").join("../target/staticlib"),
     }
 }
 

@@ -179,7 +179,7 @@ mod tests {
 #[cfg(all(test, feature = "standin"))]
 mod fault_tests {
     use super::*;
-    use crate::ffi::{faults, Faulty, BOARD_FAULTS};
+    use crate::standin::{faults, Faulty, BOARD_FAULTS};
 
     fn options(calls: u64, seed: u64) -> Options {
         Options { calls, seed, first_episode: 0, sweep: true, archive_sweep: true }

@@ -1,17 +1,9 @@
 //! One trait for the library and for the model, so that either can be driven.
 
-use crate::archive::Fields;
-use crate::model::{self, archive, Access, PowerOn};
-use crate::record::{Board, VERSION};
-use crate::reply::Reply;
-
-/// A step by numbers, as the C interface takes it.
-#[derive(Clone, Copy, PartialEq, Eq, Debug, Default)]
-pub struct StepNumbers {
-    pub kind: u32,
-    pub number: u32,
-    pub value: u32,
-}
+use crate::model::{self, archive, Packed};
+use joyce::archive::Fields;
+use joyce::interface::Interface;
+use joyce::{Access, Board, PowerOn, Reply, StepNumbers, VERSION};
 
 /// Every operation of the C interface; each takes any input.
 pub trait Machine {
@@ -35,6 +27,81 @@ pub trait Machine {
     fn archive_add(&self, archive: &[u8], fields: Fields, picture: &[u8], room: &mut [u8]) -> Reply;
 }
 
+/// The linked library, or another table of the C interface's functions.
+impl Machine for Interface {
+    fn version(&self) -> u32 {
+        Interface::version(self)
+    }
+
+    fn power_on(&self, board: &mut Board, on: &PowerOn) -> Reply {
+        Interface::power_on(self, board, on)
+    }
+
+    fn step(&self, board: &mut Board, step: StepNumbers, ram: &mut [u8], boot: &[u8]) -> Reply {
+        Interface::step(self, board, step, ram, boot)
+    }
+
+    fn draw(&self, board: &Board, ram: &[u8], picture: &mut [u8]) -> Reply {
+        Interface::draw(self, board, ram, picture)
+    }
+
+    fn refresh(&self, board: &mut Board, ram: &[u8], picture: &mut [u8]) -> Reply {
+        Interface::refresh(self, board, ram, picture)
+    }
+
+    fn next_dirty(&self, board: &Board, n: u32) -> Reply {
+        Interface::next_dirty(self, board, n)
+    }
+
+    fn first_difference(&self, a: &[u8], b: &[u8]) -> Reply {
+        Interface::first_difference(self, a, b)
+    }
+
+    fn widen(&self, line: &[u8], out: &mut [u8]) -> u8 {
+        Interface::widen(self, line, out)
+    }
+
+    fn make_pointer(&self, block: u32, start: u32) -> Reply {
+        Interface::make_pointer(self, block, start)
+    }
+
+    fn read_pointer(&self, word: u16) -> Reply {
+        Interface::read_pointer(self, word)
+    }
+
+    fn roll(&self, old: u8, new: u8) -> i8 {
+        Interface::roll(self, old, new)
+    }
+
+    fn reach(&self, access: &Access) -> Reply {
+        Interface::reach(self, access)
+    }
+
+    fn archive_start(&self, room: &mut [u8]) -> Reply {
+        Interface::archive_start(self, room)
+    }
+
+    fn archive_count(&self, archive: &[u8]) -> Reply {
+        Interface::archive_count(self, archive)
+    }
+
+    fn archive_entry(&self, archive: &[u8], k: u32) -> Reply {
+        Interface::archive_entry(self, archive, k)
+    }
+
+    fn archive_find(&self, archive: &[u8], bench: u32, number: u32) -> Reply {
+        Interface::archive_find(self, archive, bench, number)
+    }
+
+    fn archive_read(&self, archive: &[u8], k: u32, picture: &mut [u8]) -> Reply {
+        Interface::archive_read(self, archive, k, picture)
+    }
+
+    fn archive_add(&self, archive: &[u8], fields: Fields, picture: &[u8], room: &mut [u8]) -> Reply {
+        Interface::archive_add(self, archive, fields, picture, room)
+    }
+}
+
 /// The second model.
 pub struct Model;
 
@@ -46,27 +113,27 @@ impl Machine for Model {
     fn power_on(&self, board: &mut Board, on: &PowerOn) -> Reply {
         let (powered, answer) = model::power_on(on);
         *board = powered;
-        answer.into()
+        answer.packed()
     }
 
     fn step(&self, board: &mut Board, step: StepNumbers, ram: &mut [u8], boot: &[u8]) -> Reply {
-        model::step_numbers(board, step.kind, step.number, step.value, ram, boot).into()
+        model::step_numbers(board, step, ram, boot).packed()
     }
 
     fn draw(&self, board: &Board, ram: &[u8], picture: &mut [u8]) -> Reply {
-        model::draw(board, ram, picture).into()
+        model::draw(board, ram, picture).packed()
     }
 
     fn refresh(&self, board: &mut Board, ram: &[u8], picture: &mut [u8]) -> Reply {
-        model::refresh(board, ram, picture).into()
+        model::refresh(board, ram, picture).packed()
     }
 
     fn next_dirty(&self, board: &Board, n: u32) -> Reply {
-        model::next_dirty(board, n).into()
+        model::next_dirty(board, n).packed()
     }
 
     fn first_difference(&self, a: &[u8], b: &[u8]) -> Reply {
-        model::first_difference(a, b).into()
+        model::first_difference(a, b).packed()
     }
 
     fn widen(&self, line: &[u8], out: &mut [u8]) -> u8 {
@@ -74,11 +141,11 @@ impl Machine for Model {
     }
 
     fn make_pointer(&self, block: u32, start: u32) -> Reply {
-        model::make_pointer(block, start).into()
+        model::make_pointer(block, start).packed()
     }
 
     fn read_pointer(&self, word: u16) -> Reply {
-        model::read_pointer(word).into()
+        model::read_pointer(word).packed()
     }
 
     fn roll(&self, old: u8, new: u8) -> i8 {
@@ -86,72 +153,30 @@ impl Machine for Model {
     }
 
     fn reach(&self, access: &Access) -> Reply {
-        model::reach(access).into()
+        model::reach(access).packed()
     }
 
     fn archive_start(&self, room: &mut [u8]) -> Reply {
-        archive::start(room).into()
+        archive::start(room).packed()
     }
 
     fn archive_count(&self, archive: &[u8]) -> Reply {
-        archive::count(archive).into()
+        archive::count(archive).packed()
     }
 
     fn archive_entry(&self, archive: &[u8], k: u32) -> Reply {
-        archive::entry(archive, k).into()
+        archive::entry(archive, k).packed()
     }
 
     fn archive_find(&self, archive: &[u8], bench: u32, number: u32) -> Reply {
-        archive::find(archive, bench, number).into()
+        archive::find(archive, bench, number).packed()
     }
 
     fn archive_read(&self, archive: &[u8], k: u32, picture: &mut [u8]) -> Reply {
-        archive::read(archive, k, picture).into()
+        archive::read(archive, k, picture).packed()
     }
 
     fn archive_add(&self, archive: &[u8], fields: Fields, picture: &[u8], room: &mut [u8]) -> Reply {
-        archive::add(archive, fields, picture, room).into()
-    }
-}
-
-impl StepNumbers {
-    pub fn new(kind: u32, number: u32, value: u32) -> StepNumbers {
-        StepNumbers { kind, number, value }
-    }
-
-    pub fn fetch(address: u16) -> StepNumbers {
-        StepNumbers::new(1, address as u32, 0)
-    }
-
-    pub fn read(address: u16) -> StepNumbers {
-        StepNumbers::new(2, address as u32, 0)
-    }
-
-    pub fn write(address: u16, value: u8) -> StepNumbers {
-        StepNumbers::new(3, address as u32, value as u32)
-    }
-
-    pub fn port_in(port: u8) -> StepNumbers {
-        StepNumbers::new(4, port as u32, 0)
-    }
-
-    pub fn port_out(port: u8, value: u8) -> StepNumbers {
-        StepNumbers::new(5, port as u32, value as u32)
-    }
-
-    pub fn scan() -> StepNumbers {
-        StepNumbers::new(6, 0, 0)
-    }
-
-    pub fn keyboard(offset: u8, value: u8) -> StepNumbers {
-        StepNumbers::new(7, offset as u32, value as u32)
-    }
-
-    pub fn disc_line(on: bool) -> StepNumbers {
-        StepNumbers::new(8, 0, on as u32)
-    }
-
-    pub fn external_line(on: bool) -> StepNumbers {
-        StepNumbers::new(9, 0, on as u32)
+        archive::add(archive, fields, picture, room).packed()
     }
 }

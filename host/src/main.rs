@@ -2,11 +2,10 @@
 
 mod tool;
 
-use joyce::fuzz;
-use joyce::machine::Machine;
-use joyce::model::reach_list;
-use joyce::reply::Reach;
-use joyce::Library;
+use joyce::{Reach, LIBRARY};
+use joyce_host::fuzz;
+use joyce_host::machine::Machine;
+use joyce_host::model::reach_list;
 use std::io::{self, Read};
 use std::process::ExitCode;
 use std::time::Instant;
@@ -65,13 +64,13 @@ fn run(arguments: &[String]) -> Result<bool, String> {
         None => ("", &[][..]),
     };
     match command {
-        "demo" => tool::demo::run(&Library, rest).map(|()| true),
-        "render" => tool::render::run(&Library, rest).map(|()| true),
+        "demo" => tool::demo::run(&LIBRARY, rest).map(|()| true),
+        "render" => tool::render::run(&LIBRARY, rest).map(|()| true),
         "reach" => reach(rest).map(|()| true),
-        "diff" => tool::diff::run(&Library, rest),
-        "archive" => tool::archive::run(&Library, rest),
+        "diff" => tool::diff::run(&LIBRARY, rest),
+        "archive" => tool::archive::run(&LIBRARY, rest),
         "fuzz" => run_fuzz(rest),
-        "bench" => tool::bench::run(&Library, rest).map(|()| true),
+        "bench" => tool::bench::run(&LIBRARY, rest).map(|()| true),
         "stack" => tool::stack::run(rest),
         "help" | "--help" | "-h" => out::write(HELP).map(|()| true),
         "" => Err(format!("no command\n{HELP}")),
@@ -83,7 +82,7 @@ fn reach(rest: &[String]) -> Result<(), String> {
     Args::parse(rest, &[])?.expect_words(0, "groups on standard input")?;
     let mut input = Vec::new();
     io::stdin().read_to_end(&mut input).map_err(|error| format!("standard input: {error}"))?;
-    out::write(&reach_list(&input, |access| Reach::from(Library.reach(access))))
+    out::write(&reach_list(&input, |access| Reach::from(LIBRARY.reach(access))))
 }
 
 fn run_fuzz(rest: &[String]) -> Result<bool, String> {
@@ -138,14 +137,14 @@ fn report(passed: &fuzz::Passed, seed: u64, seconds: f64) -> Result<(), String> 
 #[cfg(not(feature = "standin"))]
 fn under_test(args: &Args) -> Result<Box<dyn Machine>, String> {
     match args.text("--fault") {
-        None => Ok(Box::new(Library)),
+        None => Ok(Box::new(LIBRARY)),
         Some(_) => Err("--fault is for the stand-in (--features standin)".to_string()),
     }
 }
 
 #[cfg(feature = "standin")]
 fn under_test(args: &Args) -> Result<Box<dyn Machine>, String> {
-    use joyce::ffi::{faults, Faulty};
+    use joyce_host::standin::{faults, Faulty};
     let fault = args.number("--fault", 0)?;
     let faults = faults();
     if fault as usize > faults.len() {

@@ -2,51 +2,35 @@
 
 pub mod archive;
 pub mod archive_fast;
+mod lines;
 mod memory;
+mod packed;
 mod picture;
 mod pure;
+mod rules;
 mod step;
 #[cfg(test)]
 mod tests;
 
-pub use memory::{reach, reach_list, Access};
+pub use lines::LineSets;
+pub use memory::{reach, reach_list};
+pub use packed::Packed;
 pub use picture::{draw, refresh};
 pub use pure::{first_difference, make_pointer, next_dirty, read_pointer, roll, widen};
-pub use step::{step, step_numbers, Step};
+pub use rules::{BoardRules, FieldsRules, SizesRules, STANDARD_RAM};
+pub use step::{decoded, step, step_numbers};
 
 pub(crate) use memory::blocks;
 pub(crate) use picture::table_index;
 #[cfg(feature = "standin")]
 pub(crate) use picture::touched_lines;
 
-use crate::record::{Board, Boot, Clock, Disc, Paging, Sizes, Video, ROUTE_NONE};
-use crate::reply::Answer;
-
-pub const BAD_RECORD: u8 = 1;
-pub const BAD_LENGTH: u8 = 2;
-pub const BAD_NUMBER: u8 = 3;
-pub const STREAM_ENDED: u8 = 4;
-pub const NO_PORT: u8 = 5;
-pub const BAD_SIZES: u8 = 6;
-pub const BAD_ARCHIVE: u8 = 10;
-pub const BAD_FRAME: u8 = 11;
-pub const NO_ROOM: u8 = 12;
-
-/// What the host gives at power-on.
-#[derive(Clone, Copy, PartialEq, Eq, Debug, Default)]
-pub struct PowerOn {
-    pub sizes: Sizes,
-    pub rate: u8,
-    pub maps: [u8; 4],
-    pub lock: u8,
-    pub table: u8,
-    pub top: u8,
-}
+use joyce::{Answer, Board, Boot, Clock, Disc, Paging, PowerOn, Refusal, Video, ROUTE_NONE};
 
 /// A record just powered on, or zeros and refusal 6.
 pub fn power_on(on: &PowerOn) -> (Board, Answer) {
     if !on.sizes.allowed() || !matches!(on.rate, 50 | 60) {
-        return (Board::default(), Answer { refusal: BAD_SIZES, ..Answer::default() });
+        return (Board::default(), Answer { refusal: Refusal::BAD_SIZES.0, ..Answer::default() });
     }
     let mut board = Board {
         sizes: on.sizes,

@@ -1,15 +1,17 @@
 //! The model behind the C interface, to be timed beside the library, and for `standin-c` to export. Archives are those of
 //! `archive_fast`: the plain ones build a whole archive to look one over.
 
-use crate::archive::Fields;
-use crate::interface::Interface;
-use crate::machine::{Machine, Model, StepNumbers};
-use crate::model::{archive_fast, Access, PowerOn};
-use crate::record::{Board, Paging, Sizes};
-use crate::reply::Reply;
+use crate::machine::{Machine, Model};
+use crate::model::{archive_fast, Packed};
+use joyce::archive::Fields;
+use joyce::interface::{Functions, Interface};
+use joyce::{Access, Board, Paging, PowerOn, Sizes, StepNumbers};
 
 /// The model's functions, called as the library's are.
-pub const C_MODEL: Interface = Interface {
+// SAFETY: they hand what they are lent to the model, which is safe code, and nothing else.
+pub const C_MODEL: Interface = unsafe { Interface::new(FUNCTIONS) };
+
+const FUNCTIONS: Functions = Functions {
     version: joyce_version,
     power_on: joyce_power_on,
     step: joyce_step,
@@ -161,28 +163,28 @@ pub extern "C" fn joyce_reach(internal: u8, total: u8, f0: u8, f1: u8, f2: u8, f
 /// What is lent must be as include/joyce.h asks.
 #[cfg_attr(feature = "standin", no_mangle)]
 pub unsafe extern "C" fn joyce_archive_start(room: *mut u8, room_len: usize) -> u64 {
-    Reply::from(archive_fast::start(lent_mut(room, room_len))).0
+    archive_fast::start(lent_mut(room, room_len)).packed().0
 }
 
 /// # Safety
 /// What is lent must be as include/joyce.h asks.
 #[cfg_attr(feature = "standin", no_mangle)]
 pub unsafe extern "C" fn joyce_archive_count(archive: *const u8, archive_len: usize) -> u64 {
-    Reply::from(archive_fast::count(lent(archive, archive_len))).0
+    archive_fast::count(lent(archive, archive_len)).packed().0
 }
 
 /// # Safety
 /// What is lent must be as include/joyce.h asks.
 #[cfg_attr(feature = "standin", no_mangle)]
 pub unsafe extern "C" fn joyce_archive_entry(archive: *const u8, archive_len: usize, k: u32) -> u64 {
-    Reply::from(archive_fast::entry(lent(archive, archive_len), k)).0
+    archive_fast::entry(lent(archive, archive_len), k).packed().0
 }
 
 /// # Safety
 /// What is lent must be as include/joyce.h asks.
 #[cfg_attr(feature = "standin", no_mangle)]
 pub unsafe extern "C" fn joyce_archive_find(archive: *const u8, archive_len: usize, bench: u32, number: u32) -> u64 {
-    Reply::from(archive_fast::find(lent(archive, archive_len), bench, number)).0
+    archive_fast::find(lent(archive, archive_len), bench, number).packed().0
 }
 
 /// # Safety
@@ -195,7 +197,7 @@ pub unsafe extern "C" fn joyce_archive_read(
     picture: *mut u8,
     picture_len: usize,
 ) -> u64 {
-    Reply::from(archive_fast::read(lent(archive, archive_len), k, lent_mut(picture, picture_len))).0
+    archive_fast::read(lent(archive, archive_len), k, lent_mut(picture, picture_len)).packed().0
 }
 
 /// # Safety
@@ -214,5 +216,5 @@ pub unsafe extern "C" fn joyce_archive_add(
 ) -> u64 {
     let (archive, picture) = (lent(archive, archive_len), lent(picture, picture_len));
     let room = lent_mut(room, room_len);
-    Reply::from(archive_fast::add(archive, Fields::new(bench, number, shown), picture, room)).0
+    archive_fast::add(archive, Fields::new(bench, number, shown), picture, room).packed().0
 }

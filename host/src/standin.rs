@@ -1,14 +1,13 @@
-//! Stands in for the linked library while there is none: the model, sound or with one fault put in
-//! on purpose, to see that the differential test finds it.
+//! Stands in for the linked library in the differential test: the model, sound or with one fault put in on purpose, to
+//! see that the test finds it.
 
-use crate::archive::Fields;
-use crate::machine::{Machine, Model, StepNumbers};
-use crate::model::{self, archive_fast, Access, PowerOn};
-use crate::record::{Board, Lines, BLOCK, LINE_BYTES, ROUTE_NMI};
-use crate::reply::{Answer, Drawn, Reply};
+use crate::machine::{Machine, Model};
+use crate::model::{self, archive_fast, BoardRules, LineSets, Packed};
 use crate::standin_archive::FaultyArchives;
 use crate::standin_faults::{Fault, ARCHIVE_FAULTS};
 use crate::standin_picture::{spoil, starting_in_block_of};
+use joyce::archive::Fields;
+use joyce::{Access, Answer, Board, Drawn, Lines, PowerOn, Reply, StepNumbers, BLOCK, LINE_BYTES, ROUTE_NMI};
 
 /// The faults of the board, numbered from 1; those of archives follow.
 pub const BOARD_FAULTS: [&str; 19] = [
@@ -41,10 +40,6 @@ pub fn faults() -> Vec<&'static str> {
 /// The stand-in; fault 0 is none.
 pub struct Faulty(pub u8);
 
-/// A stand-in without fault, under the library's name.
-#[allow(non_upper_case_globals)]
-pub const Library: Faulty = Faulty(0);
-
 impl Machine for Faulty {
     fn version(&self) -> u32 {
         Model.version()
@@ -57,8 +52,8 @@ impl Machine for Faulty {
     fn step(&self, board: &mut Board, step: StepNumbers, ram: &mut [u8], boot: &[u8]) -> Reply {
         match self.0 {
             2 => bank_order_locks(board, step, ram, boot),
-            11 if board.good() && model::Step::from_numbers(step.kind, step.number, step.value).is_none() => {
-                Answer { int: board.int(), refusal: 3, ..Answer::default() }.into()
+            11 if board.good() && model::decoded(step.kind, step.number, step.value).is_none() => {
+                Answer { int: board.int(), refusal: 3, ..Answer::default() }.packed()
             }
             1 | 4 | 6 | 7 | 8 | 13 | 14 | 15 | 16 => self.altered_step(board, step, ram, boot),
             _ => Model.step(board, step, ram, boot),
@@ -83,7 +78,7 @@ impl Machine for Faulty {
         }
         spoil(self.0, board, &dirty, ram, picture);
         match (self.0, last) {
-            (9, _) => Drawn { count: reply.value().min(255), ..reply.into() }.into(),
+            (9, _) => Drawn { count: reply.value().min(255), ..reply.into() }.packed(),
             (10, Some(line)) => {
                 let at = line as usize * LINE_BYTES;
                 picture[at..at + LINE_BYTES].copy_from_slice(&kept[at..at + LINE_BYTES]);
@@ -123,49 +118,50 @@ impl Machine for Faulty {
 
     fn archive_start(&self, room: &mut [u8]) -> Reply {
         match self.archives() {
-            None => archive_fast::start(room).into(),
-            Some(faulty) => faulty.start(room).into(),
+            None => archive_fast::start(room).packed(),
+            Some(faulty) => faulty.start(room).packed(),
         }
     }
 
     fn archive_count(&self, archive: &[u8]) -> Reply {
         match self.archives() {
-            None => archive_fast::count(archive).into(),
-            Some(faulty) => faulty.count(archive).into(),
+            None => archive_fast::count(archive).packed(),
+            Some(faulty) => faulty.count(archive).packed(),
         }
     }
 
     fn archive_entry(&self, archive: &[u8], k: u32) -> Reply {
         match self.archives() {
-            None => archive_fast::entry(archive, k).into(),
-            Some(faulty) => faulty.entry(archive, k).into(),
+            None => archive_fast::entry(archive, k).packed(),
+            Some(faulty) => faulty.entry(archive, k).packed(),
         }
     }
 
     fn archive_find(&self, archive: &[u8], bench: u32, number: u32) -> Reply {
         match self.archives() {
-            None => archive_fast::find(archive, bench, number).into(),
-            Some(faulty) => faulty.find(archive, bench, number).into(),
+            None => archive_fast::find(archive, bench, number).packed(),
+            Some(faulty) => faulty.find(archive, bench, number).packed(),
         }
     }
 
     fn archive_read(&self, archive: &[u8], k: u32, picture: &mut [u8]) -> Reply {
         match self.archives() {
-            None => archive_fast::read(archive, k, picture).into(),
-            Some(faulty) => faulty.read(archive, k, picture).into(),
+            None => archive_fast::read(archive, k, picture).packed(),
+            Some(faulty) => faulty.read(archive, k, picture).packed(),
         }
     }
 
     fn archive_add(&self, archive: &[u8], fields: Fields, picture: &[u8], room: &mut [u8]) -> Reply {
         match self.archives() {
-            None => archive_fast::add(archive, fields, picture, room).into(),
-            Some(faulty) => faulty.add(archive, fields, picture, room).into(),
+            None => archive_fast::add(archive, fields, picture, room).packed(),
+            Some(faulty) => faulty.add(archive, fields, picture, room).packed(),
         }
     }
 }
 
 impl Faulty {
-    /// Archives with the fault, if it is one of theirs. A number past the last is none, but of the code that can have one.
+    /// Archives with the fault, if it is one of theirs. A number past the last is none, but of the code that can have
+    /// one.
     fn archives(&self) -> Option<FaultyArchives> {
         let index = (self.0 as usize).checked_sub(BOARD_FAULTS.len() + 1)?;
         Some(FaultyArchives(ARCHIVE_FAULTS.get(index).map_or(Fault::Nothing, |fault| fault.0)))
@@ -198,7 +194,7 @@ impl Faulty {
             (16, 5) if step.number == 0xF8 && step.value & 15 == 1 => board.boot.at = before.boot.at,
             _ => {}
         }
-        Answer { int: board.int(), ..reply.into() }.into()
+        Answer { int: board.int(), ..reply.into() }.packed()
     }
 
     /// The dirty lines after a store, under the faults that alter them.

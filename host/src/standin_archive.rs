@@ -1,11 +1,10 @@
 //! Archives with one fault put in on purpose, to see that the differential test finds it.
 
-use crate::archive::{entry_at, length, picture_at, pictures_at, Fields, HEADER};
 use crate::model::archive::{written, Frame};
-use crate::model::{BAD_ARCHIVE, BAD_FRAME, BAD_LENGTH, NO_ROOM};
-use crate::record::{LINE_BYTES, PICTURE};
-use crate::reply::archive::{Count, Entry, Found, Length};
+use crate::model::FieldsRules;
 use crate::standin_faults::Fault;
+use joyce::archive::{entry_at, length, picture_at, pictures_at, Count, Entry, Fields, Found, Length, HEADER};
+use joyce::{Refusal, LINE_BYTES, PICTURE};
 
 pub struct FaultyArchives(pub Fault);
 
@@ -17,9 +16,9 @@ fn put(bytes: &mut [u8], at: usize, number: usize) {
     bytes[at..at + 4].copy_from_slice(&(number as u32).to_le_bytes());
 }
 
-/// The first refusal that applies, 0 for none.
-fn first(checks: &[(u8, bool)]) -> u8 {
-    checks.iter().find(|check| check.1).map_or(0, |check| check.0)
+/// The first refusal that applies.
+fn first(checks: &[(Refusal, bool)]) -> Option<Refusal> {
+    checks.iter().find(|check| check.1).map(|check| check.0)
 }
 
 impl FaultyArchives {
@@ -95,7 +94,7 @@ impl FaultyArchives {
     pub fn start(&self, room: &mut [u8]) -> Length {
         let least = if self.has(Fault::StartIn19) { 19 } else { HEADER };
         if room.len() < least {
-            return Length { length: 0, refusal: NO_ROOM };
+            return Length { length: 0, refusal: Refusal::NO_ROOM.0 };
         }
         let len = room.len().min(HEADER);
         room[..len].copy_from_slice(&written(&[])[..len]);
@@ -105,16 +104,16 @@ impl FaultyArchives {
     pub fn count(&self, archive: &[u8]) -> Count {
         match self.sound(archive) {
             Some(n) => Count { frames: n as u32, refusal: 0 },
-            None => Count { frames: 0, refusal: BAD_ARCHIVE },
+            None => Count { frames: 0, refusal: Refusal::BAD_ARCHIVE.0 },
         }
     }
 
     pub fn entry(&self, archive: &[u8], k: u32) -> Entry {
         let k = k as usize;
         match self.sound(archive) {
-            None => Entry { refusal: BAD_ARCHIVE, ..Entry::default() },
+            None => Entry { refusal: Refusal::BAD_ARCHIVE.0, ..Entry::default() },
             Some(n) if k == n && self.has(Fault::KTaken) => Entry::default(),
-            Some(n) if k >= n => Entry { refusal: BAD_FRAME, ..Entry::default() },
+            Some(n) if k >= n => Entry { refusal: Refusal::BAD_FRAME.0, ..Entry::default() },
             Some(_) => self.given(self.fields(archive, k)),
         }
     }
@@ -130,10 +129,10 @@ impl FaultyArchives {
     pub fn find(&self, archive: &[u8], bench: u32, number: u32) -> Found {
         let n = match self.sound(archive) {
             Some(n) => n,
-            None => return Found { index: None, refusal: BAD_ARCHIVE },
+            None => return Found { index: None, refusal: Refusal::BAD_ARCHIVE.0 },
         };
         if self.has(Fault::FindRefuses) && !(1..=65_535).contains(&bench) {
-            return Found { index: None, refusal: BAD_FRAME };
+            return Found { index: None, refusal: Refusal::BAD_FRAME.0 };
         }
         let bench = if self.has(Fault::FindLowBits) { bench & 0xFFFF } else { bench };
         let sought = Fields::new(bench, number, 0);
@@ -145,9 +144,9 @@ impl FaultyArchives {
     pub fn read(&self, archive: &[u8], k: u32, picture: &mut [u8]) -> Entry {
         let long = self.has(Fault::ReadLong) && picture.len() == PICTURE + 1;
         let entry = self.entry(archive, k);
-        let early = self.has(Fault::TenBeforeTwo) && entry.refusal == BAD_ARCHIVE;
+        let early = self.has(Fault::TenBeforeTwo) && entry.refusal == Refusal::BAD_ARCHIVE.0;
         if picture.len() != PICTURE && !long && !early {
-            return Entry { refusal: BAD_LENGTH, ..Entry::default() };
+            return Entry { refusal: Refusal::BAD_LENGTH.0, ..Entry::default() };
         }
         if entry.refusal == 0 {
             let all = self.has(Fault::ReadUnshown);
@@ -161,8 +160,8 @@ impl FaultyArchives {
     pub fn add(&self, archive: &[u8], fields: Fields, picture: &[u8], room: &mut [u8]) -> Length {
         let sound = self.sound(archive);
         let refusal = self.add_refusal(archive, sound, fields, (picture.len(), room.len()));
-        let n = match sound {
-            Some(n) if refusal == 0 => n,
+        let n = match (sound, refusal) {
+            (Some(n), None) => n,
             _ => return self.refused_add(refusal, sound, room),
         };
         let next = self.next(archive, n, fields, picture, room);
@@ -173,16 +172,22 @@ impl FaultyArchives {
         Length { length: next.len() as u32, refusal: 0 }
     }
 
-    fn refused_add(&self, refusal: u8, sound: Option<usize>, room: &mut [u8]) -> Length {
+    fn refused_add(&self, refusal: Option<Refusal>, sound: Option<usize>, room: &mut [u8]) -> Length {
         let needed = length(sound.unwrap_or(0) + 1);
         if self.has(Fault::RefusedWrites) && room.len() >= HEADER {
             put(room, 0, 1);
         }
-        let told = self.has(Fault::RefusedLength) && refusal == NO_ROOM;
-        Length { length: if told { needed as u32 } else { 0 }, refusal }
+        let told = self.has(Fault::RefusedLength) && refusal == Some(Refusal::NO_ROOM);
+        Length { length: if told { needed as u32 } else { 0 }, refusal: refusal.map_or(0, |refusal| refusal.0) }
     }
 
-    fn add_refusal(&self, archive: &[u8], sound: Option<usize>, fields: Fields, lens: (usize, usize)) -> u8 {
+    fn add_refusal(
+        &self,
+        archive: &[u8],
+        sound: Option<usize>,
+        fields: Fields,
+        lens: (usize, usize),
+    ) -> Option<Refusal> {
         let (picture, room) = lens;
         let long = self.has(Fault::AddLong) && picture == PICTURE + 1;
         let n = sound.unwrap_or(0);
@@ -190,10 +195,10 @@ impl FaultyArchives {
         let room = if self.has(Fault::ExactRoomRefused) { room.saturating_sub(1) } else { room };
         let full = n == 1_000 && !self.has(Fault::FullTaken);
         let mut checks = [
-            (BAD_LENGTH, picture != PICTURE && !long),
-            (BAD_ARCHIVE, sound.is_none()),
-            (BAD_FRAME, !self.taken(fields) || there),
-            (NO_ROOM, full || length(n + 1) > room),
+            (Refusal::BAD_LENGTH, picture != PICTURE && !long),
+            (Refusal::BAD_ARCHIVE, sound.is_none()),
+            (Refusal::BAD_FRAME, !self.taken(fields) || there),
+            (Refusal::NO_ROOM, full || length(n + 1) > room),
         ];
         match self.0 {
             Fault::TenBeforeTwo => checks.swap(0, 1),

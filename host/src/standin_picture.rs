@@ -1,7 +1,7 @@
 //! Scan lines with one fault put in on purpose, to see that the differential test finds it.
 
-use crate::model;
-use crate::record::{Board, Lines, BLOCK, ENABLE, LINE_BYTES, REVERSE, STANDARD_RAM};
+use crate::model::{self, BoardRules, LineSets, STANDARD_RAM};
+use joyce::{Board, Lines, BLOCK, ENABLE, LINE_BYTES, REVERSE};
 
 /// Spoils drawn lines as the fault has it.
 pub fn spoil(fault: u8, board: &Board, lines: &Lines, ram: &[u8], picture: &mut [u8]) {

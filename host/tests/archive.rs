@@ -3,10 +3,8 @@
 mod common;
 
 use common::{complained, folder, joyce, names, said};
-use joyce::archive::{length, Fields};
-use joyce::machine::Machine;
-use joyce::model::archive::{written, Frame};
-use joyce::Library;
+use joyce::archive::{self, length, Fields};
+use joyce_host::model::archive::{written, Frame};
 use std::fs;
 use std::path::PathBuf;
 
@@ -30,10 +28,10 @@ fn the_file_is_what_the_library_writes() {
     let folder = with_archive("archive-file");
     let raw = fs::read(folder.join("raw")).expect("the picture");
     let mut start = vec![0; length(0)];
-    Library.archive_start(&mut start);
+    archive::start(&mut start).accepted().expect("started");
     let (mut one, mut two) = (vec![0; length(1)], vec![0; length(2)]);
-    Library.archive_add(&start, Fields::new(12, 345, 256), &raw, &mut one);
-    Library.archive_add(&one, Fields::new(65_535, u32::MAX, 200), &raw, &mut two);
+    archive::add(&start, Fields::new(12, 345, 256), &raw, &mut one).accepted().expect("added");
+    archive::add(&one, Fields::new(65_535, u32::MAX, 200), &raw, &mut two).accepted().expect("added");
     assert_eq!(fs::read(folder.join("a")).expect("the archive"), two);
     assert_eq!(names(&folder), ["a", "raw"]);
 }

@@ -1,16 +1,14 @@
 //! Archives worked out by hand from document 02, on the library, on the model and on the model behind the C interface.
 
-use joyce::archive::{length, Fields};
-use joyce::machine::{Machine, Model};
-use joyce::model_c::C_MODEL;
-use joyce::record::PICTURE;
-use joyce::reply::archive::{Count, Entry, Found, Length};
-use joyce::Library;
+use joyce::archive::{length, Count, Entry, Fields, Found, Length};
+use joyce::{LIBRARY, PICTURE};
+use joyce_host::machine::{Machine, Model};
+use joyce_host::model_c::C_MODEL;
 
 fn each(case: impl Fn(&dyn Machine)) {
     case(&Model);
     case(&C_MODEL);
-    case(&Library);
+    case(&LIBRARY);
 }
 
 fn numbers(numbers: &[u32]) -> Vec<u8> {

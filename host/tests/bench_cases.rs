@@ -1,14 +1,13 @@
 //! The bench cases, run on the library and on the model through the same trait.
 
-use joyce::machine::{Machine, Model, StepNumbers};
-use joyce::model::{Access, PowerOn};
-use joyce::record::{Board, Lines, Paging, Sizes, BLOCK, PICTURE};
-use joyce::reply::{Difference, MadePointer, NextLine, Pointer, Reach};
-use joyce::Library;
+use joyce::{Access, Board, Difference, Lines, MadePointer, NextLine, Paging, Pointer, PowerOn, Reach, Sizes, Step};
+use joyce::{BLOCK, LIBRARY, LINE_BYTES, PICTURE, WIDE_LINE_BYTES};
+use joyce_host::machine::{Machine, Model};
+use joyce_host::model::LineSets;
 
 fn both(case: impl Fn(&dyn Machine)) {
     case(&Model);
-    case(&Library);
+    case(&LIBRARY);
 }
 
 fn blocks(machine: &dyn Machine, internal: u8, total: u8, maps: [u8; 4], lock: u8, address: u16) -> (u8, u8, u16) {
@@ -24,7 +23,7 @@ fn board(machine: &dyn Machine, rate: u8, table: u8, top: u8) -> (Board, Vec<u8>
     let on = PowerOn { sizes: Sizes { internal: 8, total: 8 }, rate, maps, lock: 0, table, top };
     let (mut board, mut ram) = (Board::default(), vec![0; 8 * BLOCK]);
     assert_eq!(machine.power_on(&mut board, &on).0, 0);
-    assert_eq!(machine.step(&mut board, StepNumbers::port_out(0xF8, 0), &mut ram, &[]).0, 0);
+    assert_eq!(machine.step(&mut board, Step::PortOut(0xF8, 0).into(), &mut ram, &[]).0, 0);
     board.dirty = Lines::default();
     (board, ram)
 }
@@ -55,14 +54,14 @@ fn p6_to_p8_pointers() {
         ram[BLOCK + 0x3FF8] = 71;
         ram[2 * BLOCK] = 72;
         let mut picture = vec![0; PICTURE];
-        machine.step(&mut board, StepNumbers::port_out(0xF7, 0x40), &mut ram, &[]);
+        assert_eq!(machine.step(&mut board, Step::PortOut(0xF7, 0x40).into(), &mut ram, &[]).refusal(), 0);
         assert_eq!(machine.draw(&board, &ram, &mut picture).0, 0);
         assert_eq!(picture[71..73], [71, 72]);
         // Block 2 at 8000h in place of block 4: line 0 has a byte at its start, and none at the start of block 1.
-        machine.step(&mut board, StepNumbers::port_out(0xF2, 0x82), &mut ram, &[]);
+        assert_eq!(machine.step(&mut board, Step::PortOut(0xF2, 0x82).into(), &mut ram, &[]).refusal(), 0);
         for (address, dirty) in [(0x8000, Lines::single(0)), (0x4000, Lines::default())] {
             board.dirty = Lines::default();
-            machine.step(&mut board, StepNumbers::write(address, 1), &mut ram, &[]);
+            assert_eq!(machine.step(&mut board, Step::Write(address, 1).into(), &mut ram, &[]).refusal(), 0);
             assert_eq!(board.dirty, dirty);
         }
     });
@@ -73,7 +72,7 @@ fn p9_and_p10_the_table() {
     both(|machine| {
         let (mut board, mut ram) = board(machine, 50, 0x99, 0xFF);
         // Block 4 is at 8000h; its place 3200h is entry 0, which line 1 uses.
-        machine.step(&mut board, StepNumbers::write(0x8000 + 0x3200, 1), &mut ram, &[]);
+        assert_eq!(machine.step(&mut board, Step::Write(0x8000 + 0x3200, 1).into(), &mut ram, &[]).refusal(), 0);
         assert_eq!(NextLine::from(machine.next_dirty(&board, 0)), NextLine { line: Some(1), refusal: 0 });
         assert_eq!(board.dirty, Lines::single(1));
     });
@@ -85,7 +84,7 @@ fn p11_the_counter() {
         let (mut board, mut ram) = board(machine, 50, 0, 0);
         board.clock.counter = 3;
         let seen =
-            [0xF8, 0xF4, 0xF4].map(|port| machine.step(&mut board, StepNumbers::port_in(port), &mut ram, &[]).value());
+            [0xF8, 0xF4, 0xF4].map(|port| machine.step(&mut board, Step::PortIn(port).into(), &mut ram, &[]).value());
         assert_eq!(seen, [0x53, 0x53, 0x50]);
     });
 }
@@ -97,13 +96,13 @@ fn p12_drawn_and_widened() {
         ram[0] = 0xA5;
         let mut picture = vec![0; PICTURE];
         for (control, byte) in [(0x40, 0xA5), (0xC0, 0x5A), (0x00, 0x00), (0x80, 0xFF)] {
-            machine.step(&mut board, StepNumbers::port_out(0xF7, control), &mut ram, &[]);
-            machine.refresh(&mut board, &ram, &mut picture);
+            assert_eq!(machine.step(&mut board, Step::PortOut(0xF7, control).into(), &mut ram, &[]).refusal(), 0);
+            assert_eq!(machine.refresh(&mut board, &ram, &mut picture).refusal(), 0);
             assert_eq!(picture[0], byte);
         }
-        let mut wide = [0; 180];
-        assert_eq!(machine.widen(&[0xA5; 90], &mut wide), 0);
-        assert_eq!(wide, [0xCC, 0x33].repeat(90)[..]);
+        let mut wide = [0; WIDE_LINE_BYTES];
+        assert_eq!(machine.widen(&[0xA5; LINE_BYTES], &mut wide), 0);
+        assert_eq!(wide, [0xCC, 0x33].repeat(LINE_BYTES)[..]);
     });
 }
 
@@ -115,7 +114,7 @@ fn p13_the_beam() {
             let beams = [1, 2, last].map(|beam| {
                 board.clock.beam = beam;
                 board.clock.counter = 0;
-                machine.step(&mut board, StepNumbers::scan(), &mut ram, &[]);
+                assert_eq!(machine.step(&mut board, Step::Scan.into(), &mut ram, &[]).refusal(), 0);
                 (board.clock.beam, board.clock.counter)
             });
             assert_eq!(beams, [(2, 1), (3, 0), (0, 0)]);

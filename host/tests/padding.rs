@@ -1,11 +1,7 @@
 //! The bytes between a record's fields carry nothing: no reply and no field depends on them.
 
-use joyce::fuzz::Rng;
-use joyce::machine::{Machine, StepNumbers};
-use joyce::model::PowerOn;
-use joyce::record::{Board, Sizes, BLOCK, PICTURE};
-use joyce::reply::Reply;
-use joyce::Library;
+use joyce::{Board, PowerOn, Reply, Sizes, StepNumbers, BLOCK, LIBRARY, PICTURE};
+use joyce_host::fuzz::Rng;
 
 const PADDING: [usize; 8] = [11, 13, 17, 27, 28, 29, 30, 31];
 
@@ -32,14 +28,14 @@ fn replies(raw: Raw, step: StepNumbers) -> (Vec<Reply>, Vec<Board>) {
     let board = raw.board();
     let (mut ram, mut picture) = (vec![0x5A; 8 * BLOCK], vec![0; PICTURE]);
     let (mut replies, mut boards) = (Vec::new(), Vec::new());
-    replies.push(Library.next_dirty(board, 0));
-    replies.push(Library.step(board, step, &mut ram, &[1, 2, 3]));
+    replies.push(LIBRARY.next_dirty(board, 0));
+    replies.push(LIBRARY.step(board, step, &mut ram, &[1, 2, 3]));
     boards.push(*board);
-    replies.push(Library.draw(board, &ram, &mut picture));
-    replies.push(Library.refresh(board, &ram, &mut picture));
+    replies.push(LIBRARY.draw(board, &ram, &mut picture));
+    replies.push(LIBRARY.refresh(board, &ram, &mut picture));
     boards.push(*board);
     let on = PowerOn { sizes: Sizes { internal: 8, total: step.kind as u8 }, rate: 50, ..PowerOn::default() };
-    replies.push(Library.power_on(board, &on));
+    replies.push(LIBRARY.power_on(board, &on));
     boards.push(*board);
     (replies, boards)
 }
@@ -56,7 +52,7 @@ fn padding_carries_nothing() {
         if turn % 2 == 0 {
             let rate = rng.pick(&[50, 60]);
             let on = PowerOn { sizes: Sizes { internal: 8, total: 8 }, rate, ..PowerOn::default() };
-            assert_eq!(Library.power_on(raw.board(), &on).refusal(), 0);
+            assert_eq!(LIBRARY.power_on(raw.board(), &on).refusal(), 0);
             raw.board().clock.counter = rng.byte() % 16;
             raw.board().video.control = rng.byte();
             raw.board().disc.line = rng.byte() % 2;

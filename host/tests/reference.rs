@@ -1,11 +1,9 @@
 //! Lists of calls held against a reference (document 01: the slate): what the RAM, the dirty lines, the picture and the
 //! counts must be by the rules alone, without the record and without anything a call returned.
 
-use joyce::fuzz::Rng;
-use joyce::machine::{Machine, Model, StepNumbers};
-use joyce::model::PowerOn;
-use joyce::record::{Board, Sizes, BLOCK, PICTURE};
-use joyce::Library;
+use joyce::{Board, PowerOn, Sizes, Step, StepNumbers, BLOCK, LIBRARY, PICTURE};
+use joyce_host::fuzz::Rng;
+use joyce_host::machine::{Machine, Model};
 use std::ops::Range;
 
 /// Sizes, rate, F0 to F7, a RAM of its own and which lines are dirty (document 01: marked).
@@ -109,28 +107,22 @@ fn address_of(reference: &Reference, at: usize, other_bank: usize) -> u16 {
     (bank * BLOCK + at % BLOCK) as u16
 }
 
-fn random_step(rng: &mut Rng, reference: &Reference) -> StepNumbers {
+fn random_step(rng: &mut Rng, reference: &Reference) -> Step {
     let (a, b, c) = (rng.byte(), rng.byte(), rng.byte());
     let line = line_bytes(&reference.f, &reference.ram, a as usize).1;
     let near = address_of(reference, line[b as usize % 90], c as usize % 4);
     let table = 512 * (reference.f[5] as usize % 32) + 2 * a as usize + BLOCK * (c as usize % 4);
     match rng.below(14) {
-        0..=3 => StepNumbers::write(near, b & 3),
-        4..=5 => StepNumbers::write(table as u16, b),
-        6 => StepNumbers::write(a as u16 * 256 + b as u16, c),
-        7 => StepNumbers::keyboard(a % 17, b),
-        8 => StepNumbers::port_out(0xF0 + a % 5, b),
-        9 if a < 64 => StepNumbers::port_out(0xF5 + a % 3, b),
-        9 | 10 => StepNumbers::port_out(a, b),
-        11 => StepNumbers::port_out(0xF8, a),
-        12 => StepNumbers::port_in(a),
-        _ => rng.pick(&[
-            StepNumbers::scan(),
-            StepNumbers::fetch(1),
-            StepNumbers::read(2),
-            StepNumbers::disc_line(true),
-            StepNumbers::external_line(false),
-        ]),
+        0..=3 => Step::Write(near, b & 3),
+        4..=5 => Step::Write(table as u16, b),
+        6 => Step::Write(a as u16 * 256 + b as u16, c),
+        7 => Step::Keyboard(a % 17, b),
+        8 => Step::PortOut(0xF0 + a % 5, b),
+        9 if a < 64 => Step::PortOut(0xF5 + a % 3, b),
+        9 | 10 => Step::PortOut(a, b),
+        11 => Step::PortOut(0xF8, a),
+        12 => Step::PortIn(a),
+        _ => rng.pick(&[Step::Scan, Step::Fetch(1), Step::Read(2), Step::DiscLine(true), Step::ExternalLine(false)]),
     }
 }
 
@@ -180,7 +172,7 @@ fn run_list(machine: &dyn Machine, seed: u64, calls: usize) -> RunOn {
                 assert_eq!((reply.refusal(), reply.value()), (2, 0), "seed {seed}, call {call}");
             }
         } else {
-            let step = random_step(&mut rng, &reference);
+            let step = StepNumbers::from(random_step(&mut rng, &reference));
             let ram_len = ram.len() - rng.once_in(20) as usize;
             let boot_len = rng.pick(&[0, 1, 700, 1_023, 1_024, 1_024, 1_025]);
             let reply = machine.step(&mut board, step, &mut ram[..ram_len], &[7; 1_025][..boot_len]);
@@ -217,7 +209,7 @@ fn the_model_keeps_to_the_reference() {
 
 #[test]
 fn the_library_keeps_to_the_reference() {
-    run_lists(&Library, 100..148);
+    run_lists(&LIBRARY, 100..148);
 }
 
 /// Ticks landed = counts read + the counter now + ticks lost at 15 + counts that a reset threw away.
@@ -225,20 +217,19 @@ fn the_library_keeps_to_the_reference() {
 fn no_tick_goes_missing() {
     let mut rng = Rng::new(3);
     let on = PowerOn { sizes: Sizes { internal: 8, total: 8 }, rate: 50, ..PowerOn::default() };
-    let (mut board, mut ram) = (Board::default(), vec![0; 8 * BLOCK]);
-    Library.power_on(&mut board, &on);
+    let (mut board, mut ram) = (Board::power_on(&on).expect("powered on"), vec![0; 8 * BLOCK]);
     let (mut beam, mut ticks_landed, mut counts_read, mut ticks_lost, mut counts_reset) = (0, 0u32, 0, 0, 0);
     for _ in 0..200_000 {
         let counter = board.clock.counter as u32;
         let step = match rng.below(2_000) {
-            0..=3 => StepNumbers::port_in(0xF4),
-            4 => StepNumbers::port_out(0xF8, 1),
-            _ => StepNumbers::scan(),
+            0..=3 => Step::PortIn(0xF4),
+            4 => Step::PortOut(0xF8, 1),
+            _ => Step::Scan,
         };
-        let reply = Library.step(&mut board, step, &mut ram, &[]);
-        match step.kind {
-            4 => counts_read += reply.value() as u32 & 15,
-            5 => counts_reset += counter,
+        let answer = board.step(step, &mut ram, &[]).accepted().expect("accepted");
+        match step {
+            Step::PortIn(_) => counts_read += answer.byte as u32 & 15,
+            Step::PortOut(..) => counts_reset += counter,
             _ => {
                 beam = (beam + 1) % 312;
                 ticks_landed += (beam % 52 == 2) as u32;

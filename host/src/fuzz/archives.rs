@@ -11,8 +11,8 @@ use super::rng::Rng;
 use super::shrink::shrink;
 use super::Failure;
 use crate::machine::Machine;
-use crate::reply::Reply;
 use both::Both;
+use joyce::Reply;
 use lists::{Event, List};
 
 /// Events in one episode.

@@ -1,8 +1,6 @@
 //! One call of a list, kept as plain values so that a list can be cut down and made again.
 
-use crate::machine::StepNumbers;
-use crate::model::{Access, PowerOn};
-use crate::record::{Board, BLOCK, PICTURE};
+use joyce::{Access, Board, PowerOn, StepNumbers, BLOCK, PICTURE};
 use std::fmt;
 
 #[derive(Clone, PartialEq, Debug)]

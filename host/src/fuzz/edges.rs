@@ -3,8 +3,8 @@
 
 use super::pair::Side;
 use super::sweep::{board_in_use, same};
-use crate::machine::{Machine, Model, StepNumbers};
-use crate::record::{Board, BLOCK, LINE_BYTES, PICTURE};
+use crate::machine::{Machine, Model};
+use joyce::{Board, Step, StepNumbers, BLOCK, LINE_BYTES, PICTURE};
 
 /// Sets one field of one byte.
 type Set = fn(&mut Board, u8);
@@ -87,8 +87,8 @@ fn boot_streams(library: &dyn Machine) -> Result<u64, String> {
             theirs.boot.at = at;
             let mut ours = theirs;
             let replies = (
-                library.step(&mut theirs, StepNumbers::fetch(3), &mut ram, &boot[..len]),
-                Model.step(&mut ours, StepNumbers::fetch(3), &mut ram, &boot[..len]),
+                library.step(&mut theirs, Step::Fetch(3).into(), &mut ram, &boot[..len]),
+                Model.step(&mut ours, Step::Fetch(3).into(), &mut ram, &boot[..len]),
             );
             same(|| format!("fetch of byte {at} of {len}"), (replies.0, theirs), (replies.1, ours))?;
         }

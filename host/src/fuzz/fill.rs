@@ -3,7 +3,7 @@
 use super::call::{Fill, Setup, RAM_MARGIN};
 use super::rng::Rng;
 use crate::model;
-use crate::record::BLOCK;
+use joyce::BLOCK;
 
 /// What lists start from; some fills come more often.
 pub const FILLS: [Fill; 9] = [

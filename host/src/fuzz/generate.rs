@@ -5,9 +5,8 @@ use super::fill::{ENDS_TABLES, FILLS};
 use super::pair::Pair;
 use super::rng::Rng;
 use super::unusual;
-use crate::machine::StepNumbers;
-use crate::model::{self, Access, PowerOn};
-use crate::record::{Board, Paging, Sizes, BLOCK, LINE_BYTES, PICTURE, STANDARD_RAM};
+use crate::model::{self, BoardRules, STANDARD_RAM};
+use joyce::{Access, Board, Paging, PowerOn, Sizes, Step, StepNumbers, BLOCK, LINE_BYTES, PICTURE, WIDE_LINE_BYTES};
 use std::collections::VecDeque;
 
 pub struct Generator {
@@ -25,8 +24,8 @@ impl Generator {
         let on = generator.allowed_power_on();
         generator.queue.push_back(Call::PowerOn(on));
         if !generator.rng.once_in(4) {
-            generator.queue_step(StepNumbers::port_out(0xF8, 0));
-            generator.queue_step(StepNumbers::port_out(0xF7, 0x40));
+            generator.queue_step(Step::PortOut(0xF8, 0));
+            generator.queue_step(Step::PortOut(0xF7, 0x40));
         }
         generator
     }
@@ -88,11 +87,11 @@ impl Generator {
         }
     }
 
-    pub fn step(&mut self, step: StepNumbers) -> Call {
-        Call::Step { step, ram: self.right_ram(), boot: self.rng.below(1_025) as usize }
+    pub fn step(&mut self, step: impl Into<StepNumbers>) -> Call {
+        Call::Step { step: step.into(), ram: self.right_ram(), boot: self.rng.below(1_025) as usize }
     }
 
-    fn queue_step(&mut self, step: StepNumbers) {
+    fn queue_step(&mut self, step: Step) {
         let call = self.step(step);
         self.queue.push_back(call);
     }
@@ -102,13 +101,13 @@ impl Generator {
         let (block, place) = ((at / BLOCK) as u8, (at % BLOCK) as u16);
         let bank = (0..4usize).find(|&bank| model::blocks(board.sizes, &board.paging, bank).1 == block);
         if let Some(bank) = bank {
-            return self.step(StepNumbers::write((bank as u16) << 14 | place, value));
+            return self.step(Step::Write((bank as u16) << 14 | place, value));
         }
         let bank = self.rng.below(4) as u8;
         let split = self.rng.byte() & 0x70 | block;
         let map = if block < 8 && self.rng.once_in(2) { split } else { 0x80 | block };
-        self.queue_step(StepNumbers::write((bank as u16) << 14 | place, value));
-        self.step(StepNumbers::port_out(0xF0 + bank, map))
+        self.queue_step(Step::Write((bank as u16) << 14 | place, value));
+        self.step(Step::PortOut(0xF0 + bank, map))
     }
 
     /// A value that is often the one already there, or one bit away from it.
@@ -147,18 +146,18 @@ impl Generator {
 
     fn random_store(&mut self) -> Call {
         let (address, value) = (self.rng_word(), self.rng.byte());
-        self.step(StepNumbers::write(address, value))
+        self.step(Step::Write(address, value))
     }
 
     fn keyboard_word(&mut self, ram: &[u8]) -> Call {
         let offset = self.rng.below(16) as u8;
         let value = self.value_near(ram[3 * BLOCK + 0x3FF0 + offset as usize]);
-        self.step(StepNumbers::keyboard(offset, value))
+        self.step(Step::Keyboard(offset, value))
     }
 
     fn data_read(&mut self) -> Call {
         let address = self.rng_word();
-        self.step(StepNumbers::read(address))
+        self.step(Step::Read(address))
     }
 
     fn fetch(&mut self, board: &Board) -> Call {
@@ -169,13 +168,13 @@ impl Generator {
             2 => 1_024,
             _ => self.rng.below(1_025) as usize,
         };
-        Call::Step { step: StepNumbers::fetch(self.rng_word()), ram: self.right_ram(), boot }
+        Call::Step { step: Step::Fetch(self.rng_word()).into(), ram: self.right_ram(), boot }
     }
 
     fn port_in(&mut self) -> Call {
         let any = self.rng.byte();
         let port = self.rng.pick(&[0xF4, 0xF8, 0xF8, any, 0xF0 | any & 15, any & 1]);
-        self.step(StepNumbers::port_in(port))
+        self.step(Step::PortIn(port))
     }
 
     fn port_out(&mut self) -> Call {
@@ -192,21 +191,21 @@ impl Generator {
             13 => (0xF0 | any & 15, value),
             _ => (any, value),
         };
-        self.step(StepNumbers::port_out(port, value))
+        self.step(Step::PortOut(port, value))
     }
 
     fn scans(&mut self) -> Call {
         if self.rng.once_in(20) {
             for _ in 0..self.rng.below(60) {
-                self.queue_step(StepNumbers::scan());
+                self.queue_step(Step::Scan);
             }
         }
-        self.step(StepNumbers::scan())
+        self.step(Step::Scan)
     }
 
     fn lines(&mut self) -> Call {
         let on = self.rng.once_in(2);
-        let step = if self.rng.once_in(3) { StepNumbers::external_line(on) } else { StepNumbers::disc_line(on) };
+        let step = if self.rng.once_in(3) { Step::ExternalLine(on) } else { Step::DiscLine(on) };
         self.step(step)
     }
 
@@ -260,7 +259,7 @@ impl Generator {
             0 => Call::MakePointer { block: self.rng.below(9) as u32, start: self.rng.below(16_386) as u32 },
             1 => Call::ReadPointer(seed as u16),
             2 => Call::Roll(seed as u8, (seed >> 8) as u8),
-            3 => Call::Widen { line: LINE_BYTES, out: 2 * LINE_BYTES, seed },
+            3 => Call::Widen { line: LINE_BYTES, out: WIDE_LINE_BYTES, seed },
             4 if self.rng.once_in(8) => {
                 Call::FirstDifference { a: PICTURE, b: PICTURE, flips: self.rng.byte() & 3, seed }
             }

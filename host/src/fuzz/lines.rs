@@ -3,9 +3,9 @@
 use super::pair::{unequal, Side};
 use super::rng::Rng;
 use super::sweep::same;
-use crate::machine::{Machine, Model, StepNumbers};
-use crate::model::{self, PowerOn};
-use crate::record::{Board, Lines, Sizes, Video, BLOCK, LINE_BYTES, PICTURE, STANDARD_RAM};
+use crate::machine::{Machine, Model};
+use crate::model::{self, STANDARD_RAM};
+use joyce::{Board, Lines, PowerOn, Sizes, Step, Video, BLOCK, LINE_BYTES, PICTURE};
 
 /// A board of 9 blocks, so that there is one behind block 7, with its video on; and random bytes in its RAM.
 fn start(video: Video) -> Side {
@@ -79,7 +79,7 @@ fn stores_near(start: usize) -> impl Iterator<Item = usize> {
 fn store(machine: &dyn Machine, side: &mut Side, at: usize) -> (u8, Board) {
     side.board.dirty = Lines::default();
     side.board.paging.maps[0] = 0x80 | (at / BLOCK) as u8;
-    let step = StepNumbers::write((at % BLOCK) as u16, !side.ram[at]);
-    let refusal = machine.step(&mut side.board, step, &mut side.ram, &[]).refusal();
+    let step = Step::Write((at % BLOCK) as u16, !side.ram[at]);
+    let refusal = machine.step(&mut side.board, step.into(), &mut side.ram, &[]).refusal();
     (refusal, side.board)
 }

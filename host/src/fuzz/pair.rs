@@ -4,9 +4,8 @@ use super::call::{Call, Setup, BOOT_ROOM, PICTURE_ROOM};
 use super::fill::filled_ram;
 use super::rng::Rng;
 use crate::machine::{Machine, Model};
-use crate::model;
-use crate::record::{Board, BLOCK, LINE_BYTES, PICTURE};
-use crate::reply::Reply;
+use crate::model::{self, BoardRules};
+use joyce::{Board, Reply, BLOCK, LINE_BYTES, PICTURE};
 
 /// One side's record and lent memory.
 #[derive(Clone, PartialEq)]

@@ -1,10 +1,9 @@
 //! Small domains from end to end: every pointer, every roll, every size, every port and value.
 
 use super::{edges, lines};
-use crate::machine::{Machine, Model, StepNumbers};
-use crate::model::{self, Access, PowerOn};
-use crate::record::{Board, Lines, Paging, Sizes, BLOCK};
-use crate::reply::Reply;
+use crate::machine::{Machine, Model};
+use crate::model::{self, LineSets};
+use joyce::{Access, Board, Lines, Paging, PowerOn, Reply, Sizes, Step, StepNumbers, BLOCK};
 
 /// Makes the whole sweep; gives the number of calls, or the first difference.
 pub fn sweep(library: &dyn Machine) -> Result<u64, String> {
@@ -104,7 +103,7 @@ fn ports(library: &dyn Machine) -> Result<u64, String> {
         let start = board_in_use(rate, route, line);
         for pair in 0..=0xFFFFu16 {
             let [port, value] = pair.to_le_bytes();
-            for step in [StepNumbers::port_out(port, value), StepNumbers::port_in(port)] {
+            for step in [Step::PortOut(port, value), Step::PortIn(port)].map(StepNumbers::from) {
                 let theirs = stepped(library, start, step, &mut ram);
                 let ours = stepped(&Model, start, step, &mut ram);
                 same(|| format!("{step:?} from {start:?}"), theirs, ours)?;

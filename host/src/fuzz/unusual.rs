@@ -3,9 +3,11 @@
 use super::call::{Call, BOOT_ROOM, PICTURE_ROOM, RAM_MARGIN};
 use super::generate::Generator;
 use super::rng::Rng;
-use crate::machine::StepNumbers;
-use crate::model::PowerOn;
-use crate::record::{Board, Boot, Clock, Disc, Lines, Paging, Sizes, Video, BLOCK, LINE_BYTES, PICTURE, ROUTE_NMI};
+use crate::model::{BoardRules, LineSets};
+use joyce::{
+    Board, Boot, Clock, Disc, Lines, Paging, PowerOn, Sizes, Step, StepNumbers, Video, BLOCK, LINE_BYTES, PICTURE,
+    ROUTE_NMI, WIDE_LINE_BYTES,
+};
 
 /// A step with a kind, number or value out of range, or given where there is none; a few turn out sound.
 pub fn wrong_numbers(generator: &mut Generator) -> Call {
@@ -33,7 +35,7 @@ pub fn wrong_lengths(generator: &mut Generator) -> Call {
         0 => {
             return Call::Widen {
                 line: near(&mut generator.rng, LINE_BYTES),
-                out: near(&mut generator.rng, 2 * LINE_BYTES),
+                out: near(&mut generator.rng, WIDE_LINE_BYTES),
                 seed,
             }
         }
@@ -47,13 +49,13 @@ pub fn wrong_lengths(generator: &mut Generator) -> Call {
         }
         2 => Call::Draw { ram, picture: PICTURE },
         3 => Call::Refresh { ram, picture: PICTURE },
-        4 => generator.step(StepNumbers::port_out(any, seed as u8)),
-        5 => generator.step(StepNumbers::port_in(any)),
-        6 => generator.step(StepNumbers::fetch(seed as u16)),
-        7 => generator.step(StepNumbers::scan()),
-        8 => generator.step(StepNumbers::keyboard(any % 16, seed as u8)),
-        9 => generator.step(StepNumbers::disc_line(any > 127)),
-        _ => generator.step(StepNumbers::write(seed as u16, any)),
+        4 => generator.step(Step::PortOut(any, seed as u8)),
+        5 => generator.step(Step::PortIn(any)),
+        6 => generator.step(Step::Fetch(seed as u16)),
+        7 => generator.step(Step::Scan),
+        8 => generator.step(Step::Keyboard(any % 16, seed as u8)),
+        9 => generator.step(Step::DiscLine(any > 127)),
+        _ => generator.step(Step::Write(seed as u16, any)),
     };
     with_wrong_length(generator, call)
 }

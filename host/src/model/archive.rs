@@ -1,9 +1,7 @@
 //! Archives, plainly from document 02: one is read into a list of frames, and a list of frames is written down.
 
-use super::{BAD_ARCHIVE, BAD_FRAME, BAD_LENGTH, NO_ROOM};
-use crate::archive::Fields;
-use crate::record::{LINE_BYTES, PICTURE};
-use crate::reply::archive::{Count, Entry, Found, Length};
+use joyce::archive::{Count, Entry, Fields, Found, Length};
+use joyce::{Refusal, LINE_BYTES, PICTURE};
 
 /// A frame: its bench, its number and its shown lines.
 #[derive(Clone, Copy, PartialEq, Debug)]
@@ -90,7 +88,7 @@ pub fn start(room: &mut [u8]) -> Length {
 /// Writes an archive to the front of the room, if there is room.
 fn write_to(room: &mut [u8], archive: &[u8]) -> Length {
     if archive.len() > room.len() {
-        return Length { length: 0, refusal: NO_ROOM };
+        return Length { length: 0, refusal: Refusal::NO_ROOM.0 };
     }
     room[..archive.len()].copy_from_slice(archive);
     Length { length: archive.len() as u32, refusal: 0 }
@@ -100,15 +98,15 @@ fn write_to(room: &mut [u8], archive: &[u8]) -> Length {
 pub fn count(archive: &[u8]) -> Count {
     match frames(archive) {
         Some(frames) => Count { frames: frames.len() as u32, refusal: 0 },
-        None => Count { frames: 0, refusal: BAD_ARCHIVE },
+        None => Count { frames: 0, refusal: Refusal::BAD_ARCHIVE.0 },
     }
 }
 
 /// Frame k, or the refusal.
 fn frame_of(archive: &[u8], k: u32) -> Result<Frame<'_>, Entry> {
-    let refused = |refusal| Entry { refusal, ..Entry::default() };
-    let frames = frames(archive).ok_or_else(|| refused(BAD_ARCHIVE))?;
-    frames.get(k as usize).copied().ok_or_else(|| refused(BAD_FRAME))
+    let refused = |refusal: Refusal| Entry { refusal: refusal.0, ..Entry::default() };
+    let frames = frames(archive).ok_or_else(|| refused(Refusal::BAD_ARCHIVE))?;
+    frames.get(k as usize).copied().ok_or_else(|| refused(Refusal::BAD_FRAME))
 }
 
 /// Bench, number and shown lines of entry k.
@@ -123,14 +121,14 @@ pub fn find(archive: &[u8], bench: u32, number: u32) -> Found {
             let index = frames.iter().position(|frame| frame.is_of(bench, number));
             Found { index: index.map(|k| k as u16), refusal: 0 }
         }
-        None => Found { index: None, refusal: BAD_ARCHIVE },
+        None => Found { index: None, refusal: Refusal::BAD_ARCHIVE.0 },
     }
 }
 
 /// Writes the shown lines of entry k to the front of a picture.
 pub fn read(archive: &[u8], k: u32, picture: &mut [u8]) -> Entry {
     if picture.len() != PICTURE {
-        return Entry { refusal: BAD_LENGTH, ..Entry::default() };
+        return Entry { refusal: Refusal::BAD_LENGTH.0, ..Entry::default() };
     }
     match frame_of(archive, k) {
         Ok(frame) => {
@@ -143,22 +141,22 @@ pub fn read(archive: &[u8], k: u32, picture: &mut [u8]) -> Entry {
 
 /// Writes the archive with one frame more, its last, to the front of the room.
 pub fn add(archive: &[u8], fields: Fields, picture: &[u8], room: &mut [u8]) -> Length {
-    let refused = |refusal| Length { length: 0, refusal };
+    let refused = |refusal: Refusal| Length { length: 0, refusal: refusal.0 };
     if picture.len() != PICTURE {
-        return refused(BAD_LENGTH);
+        return refused(Refusal::BAD_LENGTH);
     }
     let mut frames = match frames(archive) {
         Some(frames) => frames,
-        None => return refused(BAD_ARCHIVE),
+        None => return refused(Refusal::BAD_ARCHIVE),
     };
     let Fields { bench, number, shown } = fields;
     let in_range = (1..=65_535).contains(&bench) && (shown == 200 || shown == 256);
     if !in_range || frames.iter().any(|frame| frame.is_of(bench, number)) {
-        return refused(BAD_FRAME);
+        return refused(Refusal::BAD_FRAME);
     }
     frames.push(Frame { bench, number, lines: &picture[..LINE_BYTES * shown as usize] });
     if frames.len() > 1_000 {
-        return refused(NO_ROOM);
+        return refused(Refusal::NO_ROOM);
     }
     write_to(room, &written(&frames))
 }

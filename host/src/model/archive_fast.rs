@@ -1,9 +1,11 @@
 //! Archives once more, for speed and with the same checks: to be timed beside the library. A test holds it to the plain one.
 
-use super::{BAD_ARCHIVE, BAD_FRAME, BAD_LENGTH, NO_ROOM};
-use crate::archive::{entry_at, length, picture_at, pictures_at, Fields, ENTRY, FORM, HEADER, MOST_BENCH, MOST_FRAMES};
-use crate::record::{LINE_BYTES, PICTURE};
-use crate::reply::archive::{Count, Entry, Found, Length};
+use super::FieldsRules;
+use joyce::archive::{
+    entry_at, length, picture_at, pictures_at, Count, Entry, Fields, Found, Length, ENTRY, FORM, HEADER, MOST_BENCH,
+    MOST_FRAMES,
+};
+use joyce::{Refusal, LINE_BYTES, PICTURE};
 
 fn word(bytes: &[u8], at: usize) -> u32 {
     u32::from_le_bytes(bytes[at..at + 4].try_into().expect("four bytes"))
@@ -76,7 +78,7 @@ fn put(bytes: &mut [u8], at: usize, number: u32) {
 
 pub fn start(room: &mut [u8]) -> Length {
     if room.len() < HEADER {
-        return Length { length: 0, refusal: NO_ROOM };
+        return Length { length: 0, refusal: Refusal::NO_ROOM.0 };
     }
     header(0).iter().enumerate().for_each(|(index, &number)| put(room, 4 * index, number));
     Length { length: HEADER as u32, refusal: 0 }
@@ -85,15 +87,15 @@ pub fn start(room: &mut [u8]) -> Length {
 pub fn count(archive: &[u8]) -> Count {
     match sound(archive) {
         Some(n) => Count { frames: n as u32, refusal: 0 },
-        None => Count { frames: 0, refusal: BAD_ARCHIVE },
+        None => Count { frames: 0, refusal: Refusal::BAD_ARCHIVE.0 },
     }
 }
 
 pub fn entry(archive: &[u8], k: u32) -> Entry {
-    let refused = |refusal| Entry { refusal, ..Entry::default() };
+    let refused = |refusal: Refusal| Entry { refusal: refusal.0, ..Entry::default() };
     match sound(archive) {
-        None => refused(BAD_ARCHIVE),
-        Some(n) if k as usize >= n => refused(BAD_FRAME),
+        None => refused(Refusal::BAD_ARCHIVE),
+        Some(n) if k as usize >= n => refused(Refusal::BAD_FRAME),
         Some(_) => {
             let at = entry_at(k as usize);
             let (bench, number, shown) = (word(archive, at), word(archive, at + 4), word(archive, at + 8));
@@ -104,14 +106,14 @@ pub fn entry(archive: &[u8], k: u32) -> Entry {
 
 pub fn find(archive: &[u8], bench: u32, number: u32) -> Found {
     match sound(archive) {
-        None => Found { index: None, refusal: BAD_ARCHIVE },
+        None => Found { index: None, refusal: Refusal::BAD_ARCHIVE.0 },
         Some(n) => Found { index: position(archive, n, bench, number).map(|k| k as u16), refusal: 0 },
     }
 }
 
 pub fn read(archive: &[u8], k: u32, picture: &mut [u8]) -> Entry {
     if picture.len() != PICTURE {
-        return Entry { refusal: BAD_LENGTH, ..Entry::default() };
+        return Entry { refusal: Refusal::BAD_LENGTH.0, ..Entry::default() };
     }
     let entry = entry(archive, k);
     if entry.refusal == 0 {
@@ -123,19 +125,19 @@ pub fn read(archive: &[u8], k: u32, picture: &mut [u8]) -> Entry {
 }
 
 pub fn add(archive: &[u8], fields: Fields, picture: &[u8], room: &mut [u8]) -> Length {
-    let refused = |refusal| Length { length: 0, refusal };
+    let refused = |refusal: Refusal| Length { length: 0, refusal: refusal.0 };
     if picture.len() != PICTURE {
-        return refused(BAD_LENGTH);
+        return refused(Refusal::BAD_LENGTH);
     }
     let n = match sound(archive) {
         Some(n) => n,
-        None => return refused(BAD_ARCHIVE),
+        None => return refused(Refusal::BAD_ARCHIVE),
     };
     if !fields.in_range() || position(archive, n, fields.bench, fields.number).is_some() {
-        return refused(BAD_FRAME);
+        return refused(Refusal::BAD_FRAME);
     }
     if n == MOST_FRAMES || length(n + 1) > room.len() {
-        return refused(NO_ROOM);
+        return refused(Refusal::NO_ROOM);
     }
     write_next(archive, n, fields, picture, &mut room[..length(n + 1)]);
     Length { length: length(n + 1) as u32, refusal: 0 }

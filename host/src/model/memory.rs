@@ -1,8 +1,7 @@
 //! Paging: which block an address reaches, and the reach list.
 
-use super::BAD_SIZES;
-use crate::record::{Paging, Sizes};
-use crate::reply::Reach;
+use super::SizesRules;
+use joyce::{Access, Paging, Reach, Refusal, Sizes};
 use std::fmt::Write;
 
 /// Lock bit of each bank. Issue 9 does not have them in bank order.
@@ -22,18 +21,10 @@ pub(crate) fn blocks(sizes: Sizes, paging: &Paging, bank: usize) -> (u8, u8) {
     (read, write)
 }
 
-/// The arguments of a reach: an access under some sizes, maps and lock.
-#[derive(Clone, Copy, PartialEq, Eq, Debug, Default)]
-pub struct Access {
-    pub sizes: Sizes,
-    pub paging: Paging,
-    pub address: u16,
-}
-
 /// Where a read and a write of an address would land.
 pub fn reach(access: &Access) -> Reach {
     if !access.sizes.allowed() {
-        return Reach { refusal: BAD_SIZES, ..Reach::default() };
+        return Reach { refusal: Refusal::BAD_SIZES.0, ..Reach::default() };
     }
     let (read, write) = blocks(access.sizes, &access.paging, access.address as usize >> 14);
     Reach { place: access.address & 0x3FFF, read, write, refusal: 0 }
@@ -49,7 +40,7 @@ pub fn reach_list(input: &[u8], answer: impl Fn(&Access) -> Reach) -> String {
                 paging: Paging { maps: [f0, f1, f2, f3], lock },
                 address: u16::from_le_bytes([low, high]),
             }),
-            _ => Reach { refusal: super::BAD_LENGTH, ..Reach::default() },
+            _ => Reach { refusal: Refusal::BAD_LENGTH.0, ..Reach::default() },
         };
         write_reach(&mut text, &line);
     }

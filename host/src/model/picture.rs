@@ -1,8 +1,7 @@
 //! Scan lines: where their bytes lie, how they are drawn, and which lines a store touches.
 
-use super::{BAD_LENGTH, BAD_RECORD};
-use crate::record::{Board, Lines, Video, BLOCK, ENABLE, LINE_BYTES, PICTURE, REVERSE, STANDARD_RAM};
-use crate::reply::Drawn;
+use super::{BoardRules, LineSets, STANDARD_RAM};
+use joyce::{Board, Drawn, Lines, Refusal, Video, BLOCK, ENABLE, LINE_BYTES, PICTURE, REVERSE};
 
 /// From the first byte of a line to behind its last, a byte in eight.
 const SPAN: usize = 8 * (LINE_BYTES - 1) + 1;
@@ -53,11 +52,11 @@ fn entries_showing(table: &[u8; 512], at: usize) -> Lines {
         let distance = group.wrapping_sub(2 * (word / 8)) % GROUPS;
         *hit = ((word % 8 == low) & (distance < LINE_BYTES as u16)) as u8;
     }
-    packed(&hits)
+    gathered(&hits)
 }
 
-/// One bit for each byte of 0 or 1. The multiplication gathers eight of them at once.
-fn packed(hits: &[u8; 256]) -> Lines {
+/// One bit for each byte of 0 or 1. The multiplication takes eight of them at once.
+fn gathered(hits: &[u8; 256]) -> Lines {
     let mut words = [0; 4];
     for (index, eight) in hits.chunks_exact(8).enumerate() {
         let bytes = u64::from_le_bytes(eight.try_into().expect("eight bytes"));
@@ -99,36 +98,36 @@ fn draw_lines(board: &Board, lines: &Lines, ram: &[u8], picture: &mut [u8]) {
     }
 }
 
-/// The refusal of a draw or refresh, 0 for none.
-fn refusal(board: &Board, ram: &[u8], picture: &[u8]) -> u8 {
+/// What a draw or refresh refuses.
+fn check(board: &Board, ram: &[u8], picture: &[u8]) -> Result<(), Refusal> {
     if !board.good() {
-        BAD_RECORD
+        Err(Refusal::BAD_RECORD)
     } else if ram.len() != board.sizes.ram_bytes() || picture.len() != PICTURE {
-        BAD_LENGTH
+        Err(Refusal::BAD_LENGTH)
     } else {
-        0
+        Ok(())
     }
 }
 
 /// Writes all shown lines.
 pub fn draw(board: &Board, ram: &[u8], picture: &mut [u8]) -> Drawn {
-    match refusal(board, ram, picture) {
-        0 => {
+    match check(board, ram, picture) {
+        Ok(()) => {
             draw_lines(board, &board.shown(), ram, picture);
             Drawn { count: 0, floating: board.driven == 0, refusal: 0 }
         }
-        refusal => Drawn { refusal, ..Drawn::default() },
+        Err(refusal) => Drawn { refusal: refusal.0, ..Drawn::default() },
     }
 }
 
 /// Writes the dirty lines and counts them; none is dirty afterwards.
 pub fn refresh(board: &mut Board, ram: &[u8], picture: &mut [u8]) -> Drawn {
-    match refusal(board, ram, picture) {
-        0 => {
+    match check(board, ram, picture) {
+        Ok(()) => {
             let dirty = std::mem::take(&mut board.dirty);
             draw_lines(board, &dirty, ram, picture);
             Drawn { count: dirty.count(), floating: board.driven == 0, refusal: 0 }
         }
-        refusal => Drawn { refusal, ..Drawn::default() },
+        Err(refusal) => Drawn { refusal: refusal.0, ..Drawn::default() },
     }
 }

@@ -1,24 +1,23 @@
 //! Operations that need no RAM.
 
-use super::{BAD_LENGTH, BAD_NUMBER, BAD_RECORD};
-use crate::record::{Board, LINE_BYTES, PICTURE};
-use crate::reply::{Difference, MadePointer, NextLine, Pointer};
+use super::{BoardRules, LineSets};
+use joyce::{Board, Difference, MadePointer, NextLine, Pointer, Refusal, LINE_BYTES, PICTURE};
 
 /// The first dirty line at or after n.
 pub fn next_dirty(board: &Board, n: u32) -> NextLine {
     if !board.good() {
-        return NextLine { line: None, refusal: BAD_RECORD };
+        return NextLine { line: None, refusal: Refusal::BAD_RECORD.0 };
     }
     match u8::try_from(n) {
         Ok(from) => NextLine { line: board.dirty.next_from(from), refusal: 0 },
-        Err(_) => NextLine { line: None, refusal: BAD_NUMBER },
+        Err(_) => NextLine { line: None, refusal: Refusal::BAD_NUMBER.0 },
     }
 }
 
 /// The first position where two pictures differ, in reading order.
 pub fn first_difference(a: &[u8], b: &[u8]) -> Difference {
     if a.len() != PICTURE || b.len() != PICTURE {
-        return Difference { at: None, refusal: BAD_LENGTH };
+        return Difference { at: None, refusal: Refusal::BAD_LENGTH.0 };
     }
     let mut lines = a.chunks_exact(LINE_BYTES).zip(b.chunks_exact(LINE_BYTES));
     let at = lines.position(|(a, b)| a != b).map(|line| {
@@ -56,7 +55,7 @@ const fn doubled() -> [u16; 256] {
 /// One line for the 1,440-wide panel: each pixel twice. Gives the refusal number.
 pub fn widen(line: &[u8], out: &mut [u8]) -> u8 {
     if line.len() != LINE_BYTES || out.len() != 2 * LINE_BYTES {
-        return BAD_LENGTH;
+        return Refusal::BAD_LENGTH.0;
     }
     for (&byte, pair) in line.iter().zip(out.chunks_exact_mut(2)) {
         pair.copy_from_slice(&DOUBLED[byte as usize].to_be_bytes());
@@ -67,7 +66,7 @@ pub fn widen(line: &[u8], out: &mut [u8]) -> u8 {
 /// The pointer word of a block and a start.
 pub fn make_pointer(block: u32, start: u32) -> MadePointer {
     if block > 7 || start > 16_383 || start & 8 != 0 {
-        return MadePointer { word: 0, refusal: BAD_NUMBER };
+        return MadePointer { word: 0, refusal: Refusal::BAD_NUMBER.0 };
     }
     let word = block << 13 | start >> 4 << 3 | start & 7;
     MadePointer { word: word as u16, refusal: 0 }

@@ -2,66 +2,32 @@
 
 use super::memory::blocks;
 use super::picture::touched_lines;
-use super::{restart, BAD_LENGTH, BAD_NUMBER, BAD_RECORD, NO_PORT, STREAM_ENDED};
-use crate::record::{Board, BLOCK, BOOT_MAX, ENABLE, REVERSE, ROUTE_INT, ROUTE_NMI, ROUTE_NONE};
-use crate::reply::Answer;
+use super::{restart, BoardRules, LineSets};
+use joyce::{
+    Answer, Board, Refusal, Step, StepNumbers, BLOCK, BOOT_MAX, ENABLE, REVERSE, ROUTE_INT, ROUTE_NMI, ROUTE_NONE,
+};
 
-#[derive(Clone, Copy, PartialEq, Eq, Debug)]
-pub enum Step {
-    Fetch {
-        address: u16,
-    },
-    Read {
-        address: u16,
-    },
-    Write {
-        address: u16,
-        value: u8,
-    },
-    /// A port is document 01's channel.
-    In {
-        port: u8,
-    },
-    Out {
-        port: u8,
-        value: u8,
-    },
-    Scan,
-    Keyboard {
-        offset: u8,
-        value: u8,
-    },
-    DiscLine {
-        on: bool,
-    },
-    ExternalLine {
-        on: bool,
-    },
-}
-
-impl Step {
-    /// The step of a kind, number and value; none if one is out of range, or is given where the kind has none.
-    pub fn from_numbers(kind: u32, number: u32, value: u32) -> Option<Step> {
-        let address = || u16::try_from(number).ok();
-        let byte = |n: u32| u8::try_from(n).ok();
-        let line = || (number == 0 && value <= 1).then_some(value == 1);
-        Some(match kind {
-            1 if value == 0 => Step::Fetch { address: address()? },
-            2 if value == 0 => Step::Read { address: address()? },
-            3 => Step::Write { address: address()?, value: byte(value)? },
-            4 if value == 0 => Step::In { port: byte(number)? },
-            5 => Step::Out { port: byte(number)?, value: byte(value)? },
-            6 if number == 0 && value == 0 => Step::Scan,
-            7 => Step::Keyboard { offset: byte(number)?, value: byte(value)? },
-            8 => Step::DiscLine { on: line()? },
-            9 => Step::ExternalLine { on: line()? },
-            _ => return None,
-        })
-    }
+/// The step of a kind, number and value; none if one is out of range, or is given where the kind has none.
+pub fn decoded(kind: u32, number: u32, value: u32) -> Option<Step> {
+    let address = || u16::try_from(number).ok();
+    let byte = |n: u32| u8::try_from(n).ok();
+    let line = || (number == 0 && value <= 1).then_some(value == 1);
+    Some(match kind {
+        1 if value == 0 => Step::Fetch(address()?),
+        2 if value == 0 => Step::Read(address()?),
+        3 => Step::Write(address()?, byte(value)?),
+        4 if value == 0 => Step::PortIn(byte(number)?),
+        5 => Step::PortOut(byte(number)?, byte(value)?),
+        6 if number == 0 && value == 0 => Step::Scan,
+        7 => Step::Keyboard(byte(number)?, byte(value)?),
+        8 => Step::DiscLine(line()?),
+        9 => Step::ExternalLine(line()?),
+        _ => return None,
+    })
 }
 
 /// What a step gives before INT and NMI are added, or its refusal.
-type Effect = Result<Outcome, u8>;
+type Effect = Result<Outcome, Refusal>;
 
 struct Outcome {
     byte: u8,
@@ -83,18 +49,18 @@ pub fn step(board: &mut Board, step: Step, ram: &mut [u8], boot: &[u8]) -> Answe
 }
 
 /// Makes a step given by numbers.
-pub fn step_numbers(board: &mut Board, kind: u32, number: u32, value: u32, ram: &mut [u8], boot: &[u8]) -> Answer {
-    answer(board, Step::from_numbers(kind, number, value), ram, boot)
+pub fn step_numbers(board: &mut Board, step: StepNumbers, ram: &mut [u8], boot: &[u8]) -> Answer {
+    answer(board, decoded(step.kind, step.number, step.value), ram, boot)
 }
 
 fn answer(board: &mut Board, step: Option<Step>, ram: &mut [u8], boot: &[u8]) -> Answer {
     if !board.good() {
-        return Answer { refusal: BAD_RECORD, ..Answer::default() };
+        return Answer { refusal: Refusal::BAD_RECORD.0, ..Answer::default() };
     }
     let wrong_length = ram.len() != board.sizes.ram_bytes() || boot.len() > BOOT_MAX;
     let effect = match step {
-        _ if wrong_length => Err(BAD_LENGTH),
-        None => Err(BAD_NUMBER),
+        _ if wrong_length => Err(Refusal::BAD_LENGTH),
+        None => Err(Refusal::BAD_NUMBER),
         Some(step) => make(board, step, ram, boot),
     };
     match effect {
@@ -102,7 +68,7 @@ fn answer(board: &mut Board, step: Option<Step>, ram: &mut [u8], boot: &[u8]) ->
             let nmi = show_nmi(board);
             Answer { byte, int: board.int(), nmi, forwarded, refusal: 0 }
         }
-        Err(refusal) => Answer { int: board.int(), refusal, ..Answer::default() },
+        Err(refusal) => Answer { int: board.int(), refusal: refusal.0, ..Answer::default() },
     }
 }
 
@@ -117,23 +83,23 @@ fn show_nmi(board: &mut Board) -> bool {
 
 fn make(board: &mut Board, step: Step, ram: &mut [u8], boot: &[u8]) -> Effect {
     match step {
-        Step::Fetch { address } if board.boot.mode == 0 => done(read(board, address, ram)),
-        Step::Fetch { .. } => boot_fetch(board, boot),
-        Step::Read { address } => done(read(board, address, ram)),
-        Step::Write { address, value } => {
+        Step::Fetch(address) if board.boot.mode == 0 => done(read(board, address, ram)),
+        Step::Fetch(_) => boot_fetch(board, boot),
+        Step::Read(address) => done(read(board, address, ram)),
+        Step::Write(address, value) => {
             let (_, block) = blocks(board.sizes, &board.paging, address as usize >> 14);
             store(board, ram, block, address & 0x3FFF, value)
         }
-        Step::In { port } => port_in(board, port),
-        Step::Out { port, value } => port_out(board, port, value),
+        Step::PortIn(port) => port_in(board, port),
+        Step::PortOut(port, value) => port_out(board, port, value),
         Step::Scan => scan(board),
-        Step::Keyboard { offset, .. } if offset > 15 => Err(BAD_NUMBER),
-        Step::Keyboard { offset, value } => store(board, ram, 3, 0x3FF0 + offset as u16, value),
-        Step::DiscLine { on } => {
+        Step::Keyboard(offset, _) if offset > 15 => Err(Refusal::BAD_NUMBER),
+        Step::Keyboard(offset, value) => store(board, ram, 3, 0x3FF0 + offset as u16, value),
+        Step::DiscLine(on) => {
             board.disc.line = on as u8;
             done(0)
         }
-        Step::ExternalLine { on } => {
+        Step::ExternalLine(on) => {
             board.external = on as u8;
             done(0)
         }
@@ -141,7 +107,7 @@ fn make(board: &mut Board, step: Step, ram: &mut [u8], boot: &[u8]) -> Effect {
 }
 
 fn boot_fetch(board: &mut Board, boot: &[u8]) -> Effect {
-    let byte = *boot.get(board.boot.at as usize).ok_or(STREAM_ENDED)?;
+    let byte = *boot.get(board.boot.at as usize).ok_or(Refusal::STREAM_ENDED)?;
     board.boot.at += 1;
     done(byte)
 }
@@ -178,7 +144,7 @@ fn port_in(board: &mut Board, port: u8) -> Effect {
             done(byte)
         }
         0xF8 => done(status(board)),
-        _ => Err(NO_PORT),
+        _ => Err(Refusal::NO_PORT),
     }
 }
 
@@ -193,7 +159,7 @@ fn port_out(board: &mut Board, port: u8, value: u8) -> Effect {
         0xF7 => board.video.control = value,
         0xF8 => command(board, value & 15),
         0xFA | 0xFB => {}
-        _ => return Err(NO_PORT),
+        _ => return Err(Refusal::NO_PORT),
     }
     let control = (before.control ^ board.video.control) & (REVERSE | ENABLE);
     if before.table != board.video.table || before.top != board.video.top || control != 0 {

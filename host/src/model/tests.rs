@@ -1,8 +1,7 @@
 //! The bench cases, the refusals in their order, and the dirty lines.
 
 use super::*;
-use crate::record::{Lines, BLOCK, PICTURE, STANDARD_RAM};
-use crate::reply::{Drawn, Pointer, Reach};
+use joyce::{Access, Drawn, Lines, MadePointer, Pointer, Reach, Sizes, Step, StepNumbers, BLOCK, PICTURE};
 
 fn on(internal: u8, total: u8, rate: u8) -> PowerOn {
     PowerOn { sizes: Sizes { internal, total }, rate, ..PowerOn::default() }
@@ -56,7 +55,7 @@ fn p6_and_p7_pointers() {
         assert_eq!(make_pointer(block as u32, start as u32).word, word);
     }
     for (block, start) in [(8, 0), (0, 16_384), (0, 8), (u32::MAX, u32::MAX)] {
-        assert_eq!(make_pointer(block, start), crate::reply::MadePointer { word: 0, refusal: 3 });
+        assert_eq!(make_pointer(block, start), MadePointer { word: 0, refusal: 3 });
     }
 }
 
@@ -75,7 +74,7 @@ fn p8_a_line_runs_on_into_the_next_block() {
     // Line 0 has a byte at the start of block 2, and none at the start of block 1.
     for (address, dirty) in [(0x8000, Lines::single(0)), (0x4000, Lines::default())] {
         board.dirty = Lines::default();
-        step(&mut board, Step::Write { address, value: 1 }, &mut ram, &[]);
+        assert_eq!(step(&mut board, Step::Write(address, 1), &mut ram, &[]).refusal, 0);
         assert_eq!(board.dirty, dirty);
     }
 }
@@ -96,18 +95,18 @@ fn block_7_runs_on_into_block_0() {
     for i in 0..90u16 {
         let address = if i < 72 { 0x4000 + 0x3DC5 + 8 * i } else { 8 * (i - 72) + 5 };
         board.dirty = Lines::default();
-        step(&mut board, Step::Write { address, value: i as u8 + 1 }, &mut ram, &[]);
+        assert_eq!(step(&mut board, Step::Write(address, i as u8 + 1), &mut ram, &[]).refusal, 0);
         assert_eq!(board.dirty, Lines::single(0), "byte {i}");
     }
-    draw(&board, &ram, &mut picture);
+    assert_eq!(draw(&board, &ram, &mut picture), Drawn::default());
     assert!((1..=90).eq(picture[..90].iter().copied()));
     board.dirty = Lines::default();
     // Block 8 from end to end, and the bytes of block 0 behind the line and beside it.
     for address in (0x8000..=0xBFFF).chain(8 * 18..8 * 20).chain(0..5) {
-        step(&mut board, Step::Write { address, value: 0x77 }, &mut ram, &[]);
+        assert_eq!(step(&mut board, Step::Write(address, 0x77), &mut ram, &[]).refusal, 0);
         assert_eq!(board.dirty, Lines::default(), "{address:04X}h");
     }
-    draw(&board, &ram, &mut picture);
+    assert_eq!(draw(&board, &ram, &mut picture), Drawn::default());
     assert!((1..=90).eq(picture[..90].iter().copied()));
 }
 
@@ -118,7 +117,7 @@ fn p9_and_p10_table_and_entry() {
     assert_eq!(table_index(&board.video), 4 * BLOCK + 0x3200);
     board.dirty = Lines::default();
     board.paging.maps[0] = 0x84;
-    step(&mut board, Step::Write { address: 0x3200, value: 1 }, &mut ram, &[]);
+    assert_eq!(step(&mut board, Step::Write(0x3200, 1), &mut ram, &[]).refusal, 0);
     assert_eq!(board.dirty, Lines::single(1));
 }
 
@@ -126,7 +125,7 @@ fn p9_and_p10_table_and_entry() {
 fn p11_counter() {
     let (mut board, mut ram) = board(50);
     board.clock.counter = 3;
-    let mut read = |port| step(&mut board, Step::In { port }, &mut ram, &[]);
+    let mut read = |port| step(&mut board, Step::PortIn(port), &mut ram, &[]);
     let seen = [read(0xF8), read(0xF4), read(0xF4)].map(|answer| (answer.byte, answer.int));
     assert_eq!(seen, [(0x53, true), (0x53, false), (0x50, false)]);
 }
@@ -139,7 +138,7 @@ fn p12_drawn_bytes_and_widening() {
     let mut picture = vec![0; PICTURE];
     for (control, byte) in [(0x40, 0xA5), (0xC0, 0x5A), (0x00, 0x00), (0x80, 0xFF)] {
         board.video.control = control;
-        draw(&board, &ram, &mut picture);
+        assert_eq!(draw(&board, &ram, &mut picture), Drawn::default());
         assert_eq!(picture[0], byte);
     }
     let mut wide = [0; 180];
@@ -154,7 +153,7 @@ fn p13_beam() {
         let (mut board, mut ram) = board(rate);
         let mut scan = |beam| {
             board.clock = Clock { counter: 0, beam };
-            step(&mut board, Step::Scan, &mut ram, &[]);
+            assert_eq!(step(&mut board, Step::Scan, &mut ram, &[]).refusal, 0);
             (board.clock.beam, board.clock.counter)
         };
         assert_eq!([scan(1), scan(2), scan(last)], [(2, 1), (3, 0), (0, 0)]);
@@ -189,7 +188,8 @@ fn refusals_in_order() {
     let long = [0; 1_025];
     let mut refusal = |mut board: Board, numbers: (u32, u32, u32), ram_len: usize, boot: &[u8]| {
         let before = board;
-        let answer = step_numbers(&mut board, numbers.0, numbers.1, numbers.2, &mut ram[..ram_len], boot);
+        let numbers = StepNumbers::new(numbers.0, numbers.1, numbers.2);
+        let answer = step_numbers(&mut board, numbers, &mut ram[..ram_len], boot);
         assert_eq!(board, before);
         (answer.refusal, answer.int)
     };
@@ -213,12 +213,12 @@ fn refusals_in_order() {
 fn nmi_is_shown_once() {
     let (mut board, mut ram) = board(50);
     let mut make = |next| step(&mut board, next, &mut ram, &[]);
-    make(Step::Out { port: 0xF8, value: 2 });
+    assert_eq!(make(Step::PortOut(0xF8, 2)), Answer::default());
     let lines = |answer: Answer| (answer.int, answer.nmi);
-    assert_eq!(lines(make(Step::DiscLine { on: true })), (false, true));
+    assert_eq!(lines(make(Step::DiscLine(true))), (false, true));
     assert_eq!(lines(make(Step::Scan)), (false, false));
-    assert_eq!(lines(make(Step::Out { port: 0xF8, value: 0x12 })), (false, true));
-    assert_eq!(lines(make(Step::Out { port: 0xF8, value: 3 })), (true, false));
+    assert_eq!(lines(make(Step::PortOut(0xF8, 0x12))), (false, true));
+    assert_eq!(lines(make(Step::PortOut(0xF8, 3))), (true, false));
 }
 
 /// Dirty lines by the rule as it is written, each line compared before and after.
@@ -239,11 +239,11 @@ fn stores_make_dirty_what_the_rule_says() {
         board.dirty = Lines::default();
         let (before, before_ram) = (board, ram.clone());
         let next = match round % 3 {
-            0 => Step::Keyboard { offset: (round / 3 % 16) as u8, value: round as u8 },
-            1 => Step::Write { address: (round * 167) as u16, value: round as u8 },
-            _ => Step::Write { address: (round % 4 * 0x4000 + round * 7 % 0x2C0) as u16, value: round as u8 },
+            0 => Step::Keyboard((round / 3 % 16) as u8, round as u8),
+            1 => Step::Write((round * 167) as u16, round as u8),
+            _ => Step::Write((round % 4 * 0x4000 + round * 7 % 0x2C0) as u16, round as u8),
         };
-        step(&mut board, next, &mut ram, &[]);
+        assert_eq!(step(&mut board, next, &mut ram, &[]).refusal, 0);
         for line in 0..=255 {
             let (word, bytes) = bytes_of(&before, &before_ram, line);
             let altered = bytes.iter().find(|&&at| ram[at] != before_ram[at]);

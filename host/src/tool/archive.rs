@@ -7,10 +7,9 @@ mod kept;
 use super::args::Args;
 use super::lock::Lock;
 use super::{files, out, pbm, preview};
-use joyce::archive::Fields;
-use joyce::machine::Machine;
-use joyce::record::{LINE_BYTES, PICTURE};
-use joyce::reply::archive::Entry;
+use joyce::archive::{Entry, Fields};
+use joyce::{LINE_BYTES, PICTURE};
+use joyce_host::machine::Machine;
 pub use kept::Kept;
 use std::fs;
 

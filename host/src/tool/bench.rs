@@ -7,10 +7,10 @@ use super::args::Args;
 use super::fixture::{fixture, lay_table, Fixture};
 use super::out;
 use super::timing::{black_box, keep, nanoseconds};
-use joyce::machine::{Machine, Model, StepNumbers};
-use joyce::model::{Access, PowerOn};
-use joyce::model_c::C_MODEL;
-use joyce::record::{Lines, Paging, Sizes, BLOCK};
+use joyce::{Access, Lines, Paging, PowerOn, Sizes, Step, StepNumbers, BLOCK, LINE_BYTES, WIDE_LINE_BYTES};
+use joyce_host::machine::{Machine, Model};
+use joyce_host::model::LineSets;
+use joyce_host::model_c::C_MODEL;
 use std::cell::{Cell, RefCell};
 use std::time::{Duration, Instant};
 
@@ -78,9 +78,9 @@ impl Bench<'_> {
     }
 
     /// Times one step, made over and over; `step` may depend on the turn.
-    fn step(&self, name: &str, fixture: &Fixture, step: impl Fn(u64) -> StepNumbers) -> Timed {
+    fn step(&self, name: &str, fixture: &Fixture, step: impl Fn(u64) -> Step) -> Timed {
         self.row(name, fixture, |machine, fixture, turn| {
-            let step = black_box(step(turn));
+            let step = black_box(StepNumbers::from(step(turn)));
             keep(machine.step(&mut fixture.board, step, &mut fixture.ram, &fixture.boot));
         })
     }
@@ -123,35 +123,34 @@ fn steps(bench: &Bench) -> Result<(), String> {
     booting.board.boot.mode = 1;
     bench.row("fetch from the boot stream", &booting, |machine, fixture, _| {
         fixture.board.boot.at = 7;
-        keep(machine.step(&mut fixture.board, StepNumbers::fetch(0), &mut fixture.ram, &fixture.boot));
+        keep(machine.step(&mut fixture.board, Step::Fetch(0).into(), &mut fixture.ram, &fixture.boot));
     })?;
-    bench.step("fetch from RAM", &fixture, |turn| StepNumbers::fetch(turn as u16))?;
-    bench.step("data read", &fixture, |turn| StepNumbers::read(turn as u16))?;
-    bench.step("port in F8", &fixture, |_| StepNumbers::port_in(0xF8))?;
-    bench.step("port in F4", &fixture, |_| StepNumbers::port_in(0xF4))?;
-    bench.step("port in, forwarded", &fixture, |_| StepNumbers::port_in(0x01))?;
-    bench.step("port out F0", &fixture, |turn| StepNumbers::port_out(0xF0, turn as u8))?;
-    bench.step("port out F6, makes every line dirty", &fixture, |turn| StepNumbers::port_out(0xF6, turn as u8))?;
-    bench.step("port out F8", &fixture, |turn| StepNumbers::port_out(0xF8, turn as u8 & 15))?;
-    bench.step("scan", &fixture, |_| StepNumbers::scan())?;
-    bench.step("disc line", &fixture, |turn| StepNumbers::disc_line(turn & 1 == 1))?;
-    bench.step("external line", &fixture, |turn| StepNumbers::external_line(turn & 1 == 1))?;
-    bench.step("refused with 5", &fixture, |_| StepNumbers::port_in(0xF9))?;
+    bench.step("fetch from RAM", &fixture, |turn| Step::Fetch(turn as u16))?;
+    bench.step("data read", &fixture, |turn| Step::Read(turn as u16))?;
+    bench.step("port in F8", &fixture, |_| Step::PortIn(0xF8))?;
+    bench.step("port in F4", &fixture, |_| Step::PortIn(0xF4))?;
+    bench.step("port in, forwarded", &fixture, |_| Step::PortIn(0x01))?;
+    bench.step("port out F0", &fixture, |turn| Step::PortOut(0xF0, turn as u8))?;
+    bench.step("port out F6, makes every line dirty", &fixture, |turn| Step::PortOut(0xF6, turn as u8))?;
+    bench.step("port out F8", &fixture, |turn| Step::PortOut(0xF8, turn as u8 & 15))?;
+    bench.step("scan", &fixture, |_| Step::Scan)?;
+    bench.step("disc line", &fixture, |turn| Step::DiscLine(turn & 1 == 1))?;
+    bench.step("external line", &fixture, |turn| Step::ExternalLine(turn & 1 == 1))?;
+    bench.step("refused with 5", &fixture, |_| Step::PortIn(0xF9))?;
     Ok(())
 }
 
 fn stores(bench: &Bench) -> Result<(), String> {
     let fixture = fixture(16);
     let unaltered = fixture.ram[BLOCK + 0x1930];
-    bench.step("data write, alters nothing", &fixture, |_| StepNumbers::write(0x5930, unaltered))?;
-    bench.step("data write, alters a shown byte", &fixture, |turn| StepNumbers::write(0x5930, turn as u8))?;
+    bench.step("data write, alters nothing", &fixture, |_| Step::Write(0x5930, unaltered))?;
+    bench.step("data write, alters a shown byte", &fixture, |turn| Step::Write(0x5930, turn as u8))?;
     // The first byte of block 2 is of row 13, which starts in block 1.
-    bench
-        .step("data write, a shown byte past a block's end", &fixture, |turn| StepNumbers::write(0x8000, turn as u8))?;
-    bench.step("data write, alters a byte no line shows", &fixture, |turn| StepNumbers::write(0x0000, turn as u8))?;
-    bench.step("data write, alters a byte past block 7", &fixture, |turn| StepNumbers::write(0xC000, turn as u8))?;
-    bench.step("data write, alters a pointer", &fixture, |turn| StepNumbers::write(0xB600, turn as u8))?;
-    bench.step("keyboard word, altered", &fixture, |turn| StepNumbers::keyboard(0, turn as u8))?;
+    bench.step("data write, a shown byte past a block's end", &fixture, |turn| Step::Write(0x8000, turn as u8))?;
+    bench.step("data write, alters a byte no line shows", &fixture, |turn| Step::Write(0x0000, turn as u8))?;
+    bench.step("data write, alters a byte past block 7", &fixture, |turn| Step::Write(0xC000, turn as u8))?;
+    bench.step("data write, alters a pointer", &fixture, |turn| Step::Write(0xB600, turn as u8))?;
+    bench.step("keyboard word, altered", &fixture, |turn| Step::Keyboard(0, turn as u8))?;
     Ok(())
 }
 
@@ -183,8 +182,8 @@ fn pictures(bench: &Bench) -> Result<(), String> {
         keep(machine.first_difference(&fixture.picture, black_box(&other)));
     })?;
     bench.row("widen", &fixture, |machine, fixture, _| {
-        let (line, out) = fixture.picture.split_at_mut(90);
-        keep(machine.widen(line, &mut out[..180]));
+        let (line, out) = fixture.picture.split_at_mut(LINE_BYTES);
+        keep(machine.widen(line, &mut out[..WIDE_LINE_BYTES]));
     })?;
     Ok(())
 }
@@ -207,9 +206,8 @@ fn growth(bench: &Bench) -> Result<(), String> {
     for total in [8, 32, 128] {
         let fixture = fixture(total);
         let name = |what: &str| format!("{what}, {total} blocks");
-        bench.step(&name("data read"), &fixture, |turn| StepNumbers::read(turn as u16))?;
-        bench
-            .step(&name("data write, alters a shown byte"), &fixture, |turn| StepNumbers::write(0x5930, turn as u8))?;
+        bench.step(&name("data read"), &fixture, |turn| Step::Read(turn as u16))?;
+        bench.step(&name("data write, alters a shown byte"), &fixture, |turn| Step::Write(0x5930, turn as u8))?;
         bench.row(&name("draw"), &fixture, |machine, fixture, _| {
             keep(machine.draw(&fixture.board, &fixture.ram, &mut fixture.picture));
         })?;

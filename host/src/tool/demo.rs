@@ -5,9 +5,8 @@ use super::args::Args;
 use super::screen::{row_place, Screen, COLUMNS, COLUMN_ACROSS, ROW_ACROSS};
 use super::{files, ledger, out, pbm, preview};
 use joyce::archive::Fields;
-use joyce::machine::{Machine, StepNumbers};
-use joyce::record::{LINE_BYTES, PICTURE};
-use joyce::reply::{Difference, Drawn};
+use joyce::{Difference, Drawn, Step, LINE_BYTES, PICTURE};
+use joyce_host::machine::Machine;
 use std::fs;
 use std::path::Path;
 
@@ -109,9 +108,9 @@ fn scan_frames(screen: &mut Screen, frames: u32) -> Result<u32, String> {
     let mut ticks = 0;
     for _ in 0..frames {
         for _ in 0..FRAME {
-            screen.step(StepNumbers::scan())?;
+            screen.step(Step::Scan)?;
         }
-        ticks += (screen.step(StepNumbers::port_in(0xF4))?.byte & 15) as u32;
+        ticks += (screen.step(Step::PortIn(0xF4))?.byte & 15) as u32;
     }
     Ok(ticks)
 }
@@ -121,7 +120,7 @@ fn roll_up(screen: &mut Screen) -> Result<i8, String> {
     screen.row(0, "")?;
     let old = screen.board.video.top;
     let new = old.wrapping_add(8);
-    screen.step(StepNumbers::port_out(0xF6, new))?;
+    screen.step(Step::PortOut(0xF6, new))?;
     Ok(screen.machine.roll(old, new))
 }
 
@@ -142,7 +141,7 @@ fn report(screen: &mut Screen, what: &str) -> Result<(), String> {
 #[cfg(all(test, feature = "standin"))]
 mod tests {
     use super::*;
-    use joyce::ffi::{Faulty, BOARD_FAULTS};
+    use joyce_host::standin::{Faulty, BOARD_FAULTS};
 
     #[test]
     fn a_line_that_wraps_in_its_block_is_seen() {

@@ -2,8 +2,8 @@
 
 use super::args::Args;
 use super::{files, out, pbm};
-use joyce::machine::Machine;
-use joyce::reply::Difference;
+use joyce::Difference;
+use joyce_host::machine::Machine;
 
 fn picture(path: &str) -> Result<Vec<u8>, String> {
     pbm::decode(&files::read(path)?).map_err(|error| format!("{path}: {error}"))

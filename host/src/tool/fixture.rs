@@ -1,8 +1,7 @@
 //! A board with its memory, ready to be stepped: what the bench times and `joyce stack` measures.
 
-use joyce::machine::{Machine, Model};
-use joyce::model::PowerOn;
-use joyce::record::{Board, Lines, Sizes, BLOCK, PICTURE};
+use joyce::{Board, Lines, PowerOn, Sizes, BLOCK, PICTURE};
+use joyce_host::machine::{Machine, Model};
 
 /// Where the standard screen has its pointer table: block 2, 3600h.
 pub const TABLE: usize = 2 * BLOCK + 0x3600;

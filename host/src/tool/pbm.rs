@@ -1,6 +1,6 @@
 //! Pictures in files: PBM P4 of 720 x 256 or the 23,040 bytes by themselves; of 200 lines, 720 x 200 or 18,000 bytes.
 
-use joyce::record::{LINES, LINE_BYTES};
+use joyce::{LINES, LINE_BYTES};
 
 /// Lines as PBM. A lit pixel is a 1, which PBM viewers show as ink.
 pub fn encode(lines: &[u8]) -> Vec<u8> {
@@ -66,7 +66,7 @@ fn number(bytes: &[u8], mut at: usize) -> Result<(u32, usize), String> {
 #[cfg(test)]
 mod tests {
     use super::*;
-    use joyce::record::PICTURE;
+    use joyce::PICTURE;
 
     #[test]
     fn there_and_back() {

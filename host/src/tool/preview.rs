@@ -1,6 +1,6 @@
 //! A small look at a picture on the terminal, in braille.
 
-use joyce::record::LINE_BYTES;
+use joyce::LINE_BYTES;
 
 /// Pixels to a dot across and down; the monitor's pixels are twice as high as wide.
 const ACROSS: usize = 3;

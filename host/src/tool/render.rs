@@ -2,10 +2,8 @@
 
 use super::args::Args;
 use super::{files, out, pbm};
-use joyce::machine::{Machine, StepNumbers};
-use joyce::model::PowerOn;
-use joyce::record::{Board, Sizes, BLOCK, PICTURE};
-use joyce::reply::Drawn;
+use joyce::{Board, Drawn, PowerOn, Sizes, Step, BLOCK, PICTURE};
+use joyce_host::machine::Machine;
 
 /// The sizes a RAM of this length can have; drawing is the same for each of them.
 fn sizes_of(length: usize) -> Result<Sizes, String> {
@@ -42,7 +40,7 @@ fn drawn(machine: &dyn Machine, on: &PowerOn, control: u8, ram: &mut [u8]) -> Re
     let mut board = Board::default();
     let mut picture = vec![0; PICTURE];
     let powered = machine.power_on(&mut board, on).refusal();
-    let video = machine.step(&mut board, StepNumbers::port_out(0xF7, control), ram, &[]).refusal();
+    let video = machine.step(&mut board, Step::PortOut(0xF7, control).into(), ram, &[]).refusal();
     let draw = Drawn::from(machine.draw(&board, ram, &mut picture)).refusal;
     match powered.max(video).max(draw) {
         0 => Ok(picture),

@@ -4,10 +4,8 @@
 //! block 2, 332Fh, and the pointer table in block 2 at 3600h. Row 13 runs over the end of block 1, from column 72 on.
 
 use super::font::Font;
-use joyce::machine::{Machine, StepNumbers};
-use joyce::model::PowerOn;
-use joyce::record::{Board, Sizes, BLOCK, LINE_BYTES, PICTURE};
-use joyce::reply::{Answer, Drawn, MadePointer};
+use joyce::{Answer, Board, Drawn, MadePointer, PowerOn, Sizes, Step, StepNumbers, BLOCK, LINE_BYTES, PICTURE};
+use joyce_host::machine::Machine;
 
 pub const COLUMNS: usize = 90;
 pub const ROWS: usize = 32;
@@ -55,13 +53,14 @@ impl<'m> Screen<'m> {
         }
         let ram = vec![0; 16 * BLOCK];
         let mut screen = Screen { machine, font: Font::new(), board, ram, picture: vec![0; PICTURE], steps: 0 };
-        screen.step(StepNumbers::port_out(0xF8, 0))?;
+        screen.step(Step::PortOut(0xF8, 0))?;
         screen.lay_table()?;
-        screen.step(StepNumbers::port_out(0xF7, 0x40))?;
+        screen.step(Step::PortOut(0xF7, 0x40))?;
         Ok(screen)
     }
 
-    pub fn step(&mut self, step: StepNumbers) -> Result<Answer, String> {
+    pub fn step(&mut self, step: Step) -> Result<Answer, String> {
+        let step = StepNumbers::from(step);
         let answer = Answer::from(self.machine.step(&mut self.board, step, &mut self.ram, &[]));
         self.steps += 1;
         match answer.refusal {
@@ -78,8 +77,8 @@ impl<'m> Screen<'m> {
                 return Err(format!("pointer of line {line} refused with {}", made.refusal));
             }
             let [low, high] = made.word.to_le_bytes();
-            self.step(StepNumbers::write(TABLE_ADDRESS + 2 * line, low))?;
-            self.step(StepNumbers::write(TABLE_ADDRESS + 2 * line + 1, high))?;
+            self.step(Step::Write(TABLE_ADDRESS + 2 * line, low))?;
+            self.step(Step::Write(TABLE_ADDRESS + 2 * line + 1, high))?;
         }
         Ok(())
     }
@@ -91,7 +90,7 @@ impl<'m> Screen<'m> {
         let glyph = self.font.glyph(character);
         for (line, bits) in glyph.into_iter().enumerate() {
             let value = if inverted { !bits } else { bits };
-            self.step(StepNumbers::write(address as u16 + line as u16, value))?;
+            self.step(Step::Write(address as u16 + line as u16, value))?;
         }
         Ok(())
     }
@@ -123,7 +122,7 @@ impl<'m> Screen<'m> {
 #[cfg(test)]
 mod tests {
     use super::*;
-    use joyce::machine::Model;
+    use joyce_host::machine::Model;
 
     #[test]
     fn rows_follow_each_other() {

@@ -13,7 +13,7 @@ use super::args::Args;
 use super::out;
 use caller::Stack;
 use functions::{Function, FUNCTIONS};
-use joyce::fuzz::Rng;
+use joyce_host::fuzz::Rng;
 use report::Row;
 use values::Source;
 

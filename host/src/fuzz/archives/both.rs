@@ -2,12 +2,11 @@
 
 use super::call::Call;
 use super::Tally;
-use crate::archive::length;
 use crate::fuzz::pair::unequal;
 use crate::fuzz::rng::Rng;
 use crate::machine::{Machine, Model};
-use crate::record::PICTURE;
-use crate::reply::Reply;
+use joyce::archive::length;
+use joyce::{Reply, PICTURE};
 
 /// Bytes behind the longest room and picture lent, which nothing may write.
 const GUARD: usize = 64;

@@ -1,6 +1,6 @@
 //! One call on an archive, kept as plain values.
 
-use crate::archive::Fields;
+use joyce::archive::Fields;
 use std::fmt;
 
 #[derive(Clone, Copy, PartialEq, Debug)]

@@ -3,8 +3,8 @@
 use super::both::Both;
 use super::call::Call;
 use super::shapes::{add, archive, fresh, pair};
-use crate::archive::{entry_at, length, picture_at, Fields, HEADER};
-use crate::record::{LINE_BYTES, PICTURE};
+use joyce::archive::{entry_at, length, picture_at, Fields, HEADER};
+use joyce::{LINE_BYTES, PICTURE};
 
 /// Every call once, and those that meet 10 beside another refusal.
 fn probes(room: usize) -> Vec<Call> {

@@ -4,9 +4,9 @@ use super::both::Both;
 use super::call::Call;
 use super::shapes::{add, archive, fresh, pair};
 use super::Tally;
-use crate::archive::{entry_at, length, picture_at, Fields, MOST_FRAMES};
 use crate::machine::Machine;
-use crate::record::PICTURE;
+use joyce::archive::{entry_at, length, picture_at, Fields, MOST_FRAMES};
+use joyce::PICTURE;
 
 /// Frames of 200 and 256 lines in turn; the last has 200.
 fn mixed(n: usize) -> Vec<u8> {

@@ -3,11 +3,10 @@
 use super::both::{Both, SHIFTS};
 use super::call::Call;
 use super::{Tally, FRAMES};
-use crate::archive::{entry_at, length, picture_at, Fields, HEADER};
 use crate::fuzz::rng::Rng;
 use crate::machine::Machine;
-use crate::record::{LINE_BYTES, PICTURE};
-use crate::reply::archive::Length;
+use joyce::archive::{entry_at, length, picture_at, Fields, Length, HEADER};
+use joyce::{LINE_BYTES, PICTURE};
 use std::fmt;
 
 #[derive(Clone, PartialEq, Debug)]

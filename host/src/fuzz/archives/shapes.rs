@@ -2,10 +2,10 @@
 
 use super::both::{Both, SHIFTS};
 use super::call::Call;
-use crate::archive::{length, Fields, HEADER};
 use crate::fuzz::rng::Rng;
 use crate::model::archive::{written, Frame};
-use crate::record::{LINE_BYTES, PICTURE};
+use joyce::archive::{length, Fields, HEADER};
+use joyce::{LINE_BYTES, PICTURE};
 
 /// Benches and numbers at their limits; some share a bench, some a number.
 const PAIRS: [(u32, u32); 4] = [(1, 0), (65_535, u32::MAX), (1, u32::MAX), (258, 0x0102_0304)];

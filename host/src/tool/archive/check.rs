@@ -4,9 +4,8 @@ use super::Kept;
 use crate::tool::args::Args;
 use crate::tool::out;
 use joyce::archive::{entry_at, length, picture_at, pictures_at, ENTRY, FORM, HEADER, MOST_BENCH, MOST_FRAMES};
-use joyce::machine::Machine;
-use joyce::model::BAD_ARCHIVE;
-use joyce::record::{LINE_BYTES, PICTURE};
+use joyce::{Refusal, LINE_BYTES, PICTURE};
+use joyce_host::machine::Machine;
 use std::collections::HashMap;
 use std::fmt;
 
@@ -32,18 +31,20 @@ pub fn run(machine: &dyn Machine, rest: &[String]) -> Result<bool, String> {
     let kept = Kept::open(machine, path)?;
     let counted = kept.counted();
     let looked_over = Look { bytes: &kept.bytes, file_length: kept.file_length }.over();
-    match (counted.refusal, looked_over) {
-        (0, Ok(())) => {
+    match (counted.accepted(), looked_over) {
+        (Ok(counted), Ok(())) => {
             let frames = if counted.frames == 1 { "frame" } else { "frames" };
             out::line(&format!("{path}: sound, {} {frames}, {} bytes", counted.frames, kept.bytes.len()))?;
             Ok(true)
         }
-        (BAD_ARCHIVE, Err(unsound)) => {
+        (Err(Refusal::BAD_ARCHIVE), Err(unsound)) => {
             out::line(&format!("{path}: not sound: {unsound}"))?;
             Ok(false)
         }
-        (refusal, Ok(())) => Err(format!("{path}: the library refuses it with {refusal}, but nothing wrong is found")),
-        (refusal, Err(unsound)) => Err(format!("{path}: the library answers with {refusal}, but {unsound}")),
+        (Err(Refusal(number)), Ok(())) => {
+            Err(format!("{path}: the library refuses it with {number}, but nothing wrong is found"))
+        }
+        (_, Err(unsound)) => Err(format!("{path}: the library answers with {}, but {unsound}", counted.refusal)),
     }
 }
 

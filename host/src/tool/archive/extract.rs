@@ -3,8 +3,8 @@
 use super::{index, Kept};
 use crate::tool::args::Args;
 use crate::tool::{files, out, pbm};
-use joyce::machine::Machine;
-use joyce::reply::archive::Entry;
+use joyce::archive::Entry;
+use joyce_host::machine::Machine;
 use std::fs;
 use std::path::Path;
 

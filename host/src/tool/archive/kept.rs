@@ -1,10 +1,8 @@
 //! An archive in a file, looked at through the library, and what its refusals mean to a user.
 
-use joyce::archive::{length, Fields, MOST_BENCH, MOST_FRAMES};
-use joyce::machine::Machine;
-use joyce::model::{BAD_ARCHIVE, BAD_FRAME, NO_ROOM};
-use joyce::record::{LINE_BYTES, PICTURE};
-use joyce::reply::archive::{Count, Entry, Found, Length};
+use joyce::archive::{length, Count, Entry, Fields, Found, Length, MOST_BENCH, MOST_FRAMES};
+use joyce::{Refusal, LINE_BYTES, PICTURE};
+use joyce_host::machine::Machine;
 use std::fs::File;
 use std::io::{ErrorKind, Read};
 
@@ -20,9 +18,9 @@ impl<'m> Kept<'m> {
     /// An archive of no frames, not yet in its file.
     pub fn started(machine: &'m dyn Machine, path: &'m str) -> Result<Kept<'m>, String> {
         let mut bytes = vec![0; length(0)];
-        match Length::from(machine.archive_start(&mut bytes)).refusal {
-            0 => Ok(Kept { machine, path, file_length: bytes.len() as u64, bytes }),
-            refusal => Err(format!("{path}: an archive cannot be started: refused with {refusal}")),
+        match Length::from(machine.archive_start(&mut bytes)).accepted() {
+            Ok(_) => Ok(Kept { machine, path, file_length: bytes.len() as u64, bytes }),
+            Err(Refusal(number)) => Err(format!("{path}: an archive cannot be started: refused with {number}")),
         }
     }
 
@@ -41,11 +39,11 @@ impl<'m> Kept<'m> {
         Ok(Kept { machine, path, bytes, file_length: found.len() })
     }
 
-    fn refused(&self, refusal: u8) -> String {
+    fn refused(&self, refusal: Refusal) -> String {
         let path = self.path;
         match refusal {
-            BAD_ARCHIVE => format!("{path}: not a sound archive; `joyce archive check {path}` says where"),
-            _ => format!("{path}: refused with {refusal}"),
+            Refusal::BAD_ARCHIVE => format!("{path}: not a sound archive; `joyce archive check {path}` says where"),
+            Refusal(number) => format!("{path}: refused with {number}"),
         }
     }
 
@@ -55,17 +53,13 @@ impl<'m> Kept<'m> {
     }
 
     pub fn count(&self) -> Result<u32, String> {
-        match self.counted() {
-            Count { refusal: 0, frames } => Ok(frames),
-            Count { refusal, .. } => Err(self.refused(refusal)),
-        }
+        self.counted().accepted().map(|counted| counted.frames).map_err(|refusal| self.refused(refusal))
     }
 
     fn given(&self, k: u32, entry: Entry) -> Result<Entry, String> {
-        match entry.refusal {
-            0 => Ok(entry),
-            BAD_FRAME => Err(format!("{}: no entry {k}; it has {}", self.path, frames(self.count()?))),
-            refusal => Err(self.refused(refusal)),
+        match entry.accepted() {
+            Err(Refusal::BAD_FRAME) => Err(format!("{}: no entry {k}; it has {}", self.path, frames(self.count()?))),
+            given => given.map_err(|refusal| self.refused(refusal)),
         }
     }
 
@@ -82,31 +76,31 @@ impl<'m> Kept<'m> {
     }
 
     pub fn find(&self, bench: u32, number: u32) -> Result<Option<u16>, String> {
-        match Found::from(self.machine.archive_find(&self.bytes, bench, number)) {
-            Found { refusal: 0, index } => Ok(index),
-            Found { refusal, .. } => Err(self.refused(refusal)),
-        }
+        let found = Found::from(self.machine.archive_find(&self.bytes, bench, number)).accepted();
+        found.map(|found| found.index).map_err(|refusal| self.refused(refusal))
     }
 
     /// The archive with one frame more.
     pub fn with(&self, fields: Fields, picture: &[u8]) -> Result<Vec<u8>, String> {
         let mut room = vec![0; length(self.count()? as usize + 1)];
-        match Length::from(self.machine.archive_add(&self.bytes, fields, picture, &mut room)).refusal {
-            0 => Ok(room),
-            refusal => Err(self.not_added(refusal, fields)?),
+        match Length::from(self.machine.archive_add(&self.bytes, fields, picture, &mut room)).accepted() {
+            Ok(_) => Ok(room),
+            Err(refusal) => Err(self.not_added(refusal, fields)?),
         }
     }
 
-    fn not_added(&self, refusal: u8, fields: Fields) -> Result<String, String> {
+    fn not_added(&self, refusal: Refusal, fields: Fields) -> Result<String, String> {
         let Fields { bench, number, shown } = fields;
         let path = self.path;
         Ok(match (refusal, self.find(bench, number)?) {
-            (BAD_FRAME, Some(k)) => format!("{path}: bench {bench}, number {number} is there already, as entry {k}"),
-            (BAD_FRAME, None) if !(1..=MOST_BENCH).contains(&bench) => {
+            (Refusal::BAD_FRAME, Some(k)) => {
+                format!("{path}: bench {bench}, number {number} is there already, as entry {k}")
+            }
+            (Refusal::BAD_FRAME, None) if !(1..=MOST_BENCH).contains(&bench) => {
                 format!("--bench: {bench} is not from 1 to {MOST_BENCH}")
             }
-            (BAD_FRAME, None) => format!("--shown: {shown} is neither 200 nor 256"),
-            (NO_ROOM, _) => {
+            (Refusal::BAD_FRAME, None) => format!("--shown: {shown} is neither 200 nor 256"),
+            (Refusal::NO_ROOM, _) => {
                 format!("{path}: full: an archive has at most {MOST_FRAMES} frames; `joyce archive new` makes another")
             }
             _ => self.refused(refusal),

@@ -4,11 +4,11 @@
 use super::Bench;
 use crate::tool::timing::{black_box, keep, nanoseconds};
 use joyce::archive::{Fields, MOST_FRAMES};
-use joyce::machine::Machine;
-use joyce::model::archive::{written, Frame};
-use joyce::model::archive_fast;
-use joyce::model_c::C_MODEL;
-use joyce::record::{LINE_BYTES, PICTURE};
+use joyce::{LINE_BYTES, PICTURE};
+use joyce_host::machine::Machine;
+use joyce_host::model::archive::{written, Frame};
+use joyce_host::model::archive_fast;
+use joyce_host::model_c::C_MODEL;
 use std::time::{Duration, Instant};
 
 /// What frame k is told by. Frames of 200 and 256 lines take turns.

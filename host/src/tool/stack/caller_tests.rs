@@ -2,7 +2,7 @@
 
 use super::super::functions::tests::address;
 use super::*;
-use joyce::header::Type::{self, Unsigned};
+use joyce_host::header::Type::{self, Unsigned};
 use std::arch::global_asm;
 use std::mem::MaybeUninit;
 

@@ -1,7 +1,7 @@
 //! The functions of the header, as the build found them there, and their addresses in the library.
 
-use joyce::header::Type::{self, *};
-use joyce::reply::Reply;
+use joyce::Reply;
+use joyce_host::header::Type::{self, *};
 
 pub struct Function {
     pub name: &'static str,

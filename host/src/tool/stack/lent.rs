@@ -1,8 +1,8 @@
 //! An argument with the memory that it lends. The memory is kept from call to call: to get it anew would take longer than most
 //! calls do.
 
-use joyce::header::Type;
-use joyce::record::Board;
+use joyce::Board;
+use joyce_host::header::Type;
 
 pub struct Argument {
     kind: Type,

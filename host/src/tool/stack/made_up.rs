@@ -4,8 +4,8 @@ use super::caller::Stack;
 use super::functions::{cut, Function};
 use super::lent::Argument;
 use super::values::{Source, Values};
-use joyce::fuzz::Rng;
-use joyce::header::Type;
+use joyce_host::fuzz::Rng;
+use joyce_host::header::Type;
 
 /// Calls of each function.
 const CALLS: usize = 3_000;
@@ -94,7 +94,7 @@ fn none_accepted(function: &Function, source: &Source) -> String {
 mod tests {
     use super::super::functions::tests::address;
     use super::*;
-    use joyce::header::Type::{Bytes, Unsigned};
+    use joyce_host::header::Type::{Bytes, Unsigned};
 
     extern "C" fn refuses(_moon: u32) -> u64 {
         1 << 32

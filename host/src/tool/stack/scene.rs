@@ -4,9 +4,8 @@
 use super::caller::Stack;
 use super::functions::Function;
 use crate::tool::fixture::{fixture, Fixture};
-use joyce::machine::StepNumbers;
-use joyce::record::{Board, BLOCK};
-use joyce::reply::Reply;
+use joyce::{Board, Refusal, Reply, StepNumbers, BLOCK};
+use joyce_host::model::BoardRules;
 
 /// Blocks of RAM that each scene is measured with: few, and as many as there may be. Both have some past the standard RAM.
 const TOTALS: [u8; 2] = [9, 128];
@@ -120,8 +119,8 @@ impl Made<'_> {
     }
 
     /// Whether it was refused with a number, and changed nothing.
-    pub fn refused(&self, refusal: u8) -> bool {
-        self.reply.refusal() == refusal && self.unchanged()
+    pub fn refused(&self, refusal: Refusal) -> bool {
+        self.reply.refusal() == refusal.0 && self.unchanged()
     }
 
     fn unchanged(&self) -> bool {
@@ -138,15 +137,16 @@ impl Made<'_> {
 mod tests {
     use super::super::functions::FUNCTIONS;
     use super::*;
+    use joyce::Step;
 
     /// A step that does something else than its row says is not measured.
     #[test]
     fn a_row_says_what_was_measured() {
         let step = FUNCTIONS.iter().find(|function| function.name == "joyce_step").expect("a step");
         let mut scene =
-            Scene { name: "read", set: |_| {}, steps: |_| vec![StepNumbers::read(5)], holds: |made| made.gave_ram() };
+            Scene { name: "read", set: |_| {}, steps: |_| vec![Step::Read(5).into()], holds: |made| made.gave_ram() };
         assert!(measure(&mut Stack::new(), step, &scene).expect("measured") > 8);
-        scene.steps = |_| vec![StepNumbers::read(5), StepNumbers::port_in(0xF9)];
+        scene.steps = |_| vec![Step::Read(5).into(), Step::PortIn(0xF9).into()];
         let error = measure(&mut Stack::new(), step, &scene).expect_err("refused with 5, and no read");
         assert!(error.starts_with("stack: not what its row says: read, 50 Hz, StepNumbers { kind: 4"), "{error}");
     }
@@ -157,9 +157,9 @@ mod tests {
         let other = Function { parameters: FUNCTIONS[1].parameters, ..*step };
         let mut before = fixture(8);
         let mut lent = before.clone();
-        assert!(lend(step, &before, &mut lent, StepNumbers::scan()).is_ok());
+        assert!(lend(step, &before, &mut lent, Step::Scan.into()).is_ok());
         before.board.rate = 60;
-        let error = lend(&other, &before, &mut lent, StepNumbers::scan()).expect_err("another function");
+        let error = lend(&other, &before, &mut lent, Step::Scan.into()).expect_err("another function");
         assert_eq!(error, "joyce_step: the scenes do not know its parameter internal");
         assert_eq!(lent.board.rate, 60);
     }

@@ -2,9 +2,8 @@
 
 use super::scene::{index, Made, Scene};
 use crate::tool::fixture::{lay_table, Fixture, TABLE};
-use joyce::machine::StepNumbers;
-use joyce::model::{BAD_LENGTH, BAD_NUMBER, BAD_RECORD, NO_PORT, STREAM_ENDED};
-use joyce::record::{BLOCK, ROUTE_NMI, STANDARD_RAM};
+use joyce::{Refusal, Step, StepNumbers, BLOCK, ROUTE_NMI};
+use joyce_host::model::{BoardRules, STANDARD_RAM};
 
 /// Where keyboard words go: block 3, 3FF0h.
 const KEYBOARD: usize = 3 * BLOCK + 0x3FF0;
@@ -24,13 +23,18 @@ fn plain(name: &'static str, steps: fn(&Fixture) -> Vec<StepNumbers>, holds: fn(
     Scene { name, set: |_| {}, steps, holds }
 }
 
+/// Steps as a call takes them.
+fn numbers(steps: impl IntoIterator<Item = Step>) -> Vec<StepNumbers> {
+    steps.into_iter().map(StepNumbers::from).collect()
+}
+
 fn reads() -> Vec<Scene> {
     vec![
-        plain("fetch", |_| ANY.map(StepNumbers::fetch).to_vec(), |made| made.gave_ram()),
+        plain("fetch", |_| numbers(ANY.map(Step::Fetch)), |made| made.gave_ram()),
         Scene {
             name: "fetch in boot mode",
             set: |fixture| fixture.board.boot.mode = 1,
-            steps: |_| vec![StepNumbers::fetch(0)],
+            steps: |_| numbers([Step::Fetch(0)]),
             holds: |made| {
                 let (at, next) = (made.before.board.boot.at, made.after.board.boot.at);
                 made.accepted() && next == at + 1 && made.reply.value() == made.before.boot[at as usize] as u16
@@ -42,17 +46,16 @@ fn reads() -> Vec<Scene> {
                 fixture.board.boot.mode = 1;
                 fixture.board.boot.at = fixture.boot.len() as u16;
             },
-            steps: |_| vec![StepNumbers::fetch(0)],
-            holds: |made| made.refused(STREAM_ENDED),
+            steps: |_| numbers([Step::Fetch(0)]),
+            holds: |made| made.refused(Refusal::STREAM_ENDED),
         },
-        plain("read", |_| ANY.map(StepNumbers::read).to_vec(), |made| made.gave_ram()),
+        plain("read", |_| numbers(ANY.map(Step::Read)), |made| made.gave_ram()),
     ]
 }
 
 /// Writes of other values than those that stand there.
 fn altering(fixture: &Fixture, addresses: &[u16]) -> Vec<StepNumbers> {
-    let write = |&address| StepNumbers::write(address, !fixture.ram[index(fixture, address as u32)]);
-    addresses.iter().map(write).collect()
+    numbers(addresses.iter().map(|&address| Step::Write(address, !fixture.ram[index(fixture, address as u32)])))
 }
 
 /// The index that a write reached, with the lines that came to be dirty by the altered byte.
@@ -69,9 +72,7 @@ fn writes() -> Vec<Scene> {
     vec![
         plain(
             "write that alters nothing",
-            |fixture| {
-                ANY.map(|address| StepNumbers::write(address, fixture.ram[index(fixture, address as u32)])).to_vec()
-            },
+            |fixture| numbers(ANY.map(|address| Step::Write(address, fixture.ram[index(fixture, address as u32)]))),
             |made| made.unaltered(index(made.before, made.step.number)),
         ),
         plain(
@@ -108,25 +109,25 @@ fn ins() -> Vec<Scene> {
         Scene {
             name: "in of a port of the board",
             set: |fixture| fixture.board.clock.counter = 5,
-            steps: |_| [0xF4, 0xF8].map(StepNumbers::port_in).to_vec(),
+            steps: |_| numbers([0xF4, 0xF8].map(Step::PortIn)),
             holds: |made| made.accepted() && !made.reply.forwarded() && made.reply.value() & 15 == 5,
         },
         plain(
             "in, forwarded",
-            |_| [0x00, 0x01, 0x80, 0xEF, 0xFC, 0xFD].map(StepNumbers::port_in).to_vec(),
+            |_| numbers([0x00, 0x01, 0x80, 0xEF, 0xFC, 0xFD].map(Step::PortIn)),
             |made| made.did_nothing() && made.reply.forwarded(),
         ),
         plain(
             "in, refused with 5",
-            |_| [0x02, 0xF0, 0xF9, 0xFF].map(StepNumbers::port_in).to_vec(),
-            |made| made.refused(NO_PORT),
+            |_| numbers([0x02, 0xF0, 0xF9, 0xFF].map(Step::PortIn)),
+            |made| made.refused(Refusal::NO_PORT),
         ),
     ]
 }
 
 /// Outs of the same value.
 fn outs_of(ports: &[u8], value: u8) -> Vec<StepNumbers> {
-    ports.iter().map(|&port| StepNumbers::port_out(port, value)).collect()
+    numbers(ports.iter().map(|&port| Step::PortOut(port, value)))
 }
 
 fn outs() -> Vec<Scene> {
@@ -142,7 +143,7 @@ fn outs() -> Vec<Scene> {
     scenes.extend([
         plain(
             "out to F8, every value",
-            |_| (0..=255).map(|value| StepNumbers::port_out(0xF8, value)).collect(),
+            |_| numbers((0..=255).map(|value| Step::PortOut(0xF8, value))),
             |made| made.accepted(),
         ),
         plain("out to FA and FB", |_| outs_of(&[0xFA, 0xFB], 1), |made| made.did_nothing()),
@@ -151,7 +152,7 @@ fn outs() -> Vec<Scene> {
             |_| outs_of(&[0x01, 0x80, 0xEF, 0xFC, 0xFD], 1),
             |made| made.did_nothing() && made.reply.forwarded(),
         ),
-        plain("out, refused with 5", |_| outs_of(&[0x00, 0xF9, 0xFF], 1), |made| made.refused(NO_PORT)),
+        plain("out, refused with 5", |_| outs_of(&[0x00, 0xF9, 0xFF], 1), |made| made.refused(Refusal::NO_PORT)),
     ]);
     scenes
 }
@@ -170,7 +171,7 @@ fn video_outs() -> Vec<Scene> {
         ),
         plain(
             "out to F7",
-            |_| [0x00, 0x41, 0xC0].map(|value| StepNumbers::port_out(0xF7, value)).to_vec(),
+            |_| numbers([0x00, 0x41, 0xC0].map(|value| Step::PortOut(0xF7, value))),
             |made| made.accepted() && made.after.board.video.control as u32 == made.step.value,
         ),
     ]
@@ -178,7 +179,7 @@ fn video_outs() -> Vec<Scene> {
 
 /// A scan from a beam that `set` chooses, and what it must make of beam and counter.
 fn scan(name: &'static str, set: fn(&mut Fixture), holds: fn(&Made) -> bool) -> Scene {
-    Scene { name, set, steps: |_| vec![StepNumbers::scan()], holds }
+    Scene { name, set, steps: |_| numbers([Step::Scan]), holds }
 }
 
 fn clock() -> Vec<Scene> {
@@ -206,18 +207,18 @@ fn keyboard() -> Vec<Scene> {
     vec![
         plain(
             "keyboard word that alters nothing",
-            |fixture| vec![StepNumbers::keyboard(0, fixture.ram[KEYBOARD])],
+            |fixture| numbers([Step::Keyboard(0, fixture.ram[KEYBOARD])]),
             |made| made.unaltered(KEYBOARD),
         ),
         plain(
             "keyboard word that alters an unshown byte",
-            |fixture| vec![StepNumbers::keyboard(0, !fixture.ram[KEYBOARD])],
+            |fixture| numbers([Step::Keyboard(0, !fixture.ram[KEYBOARD])]),
             |made| made.altered(KEYBOARD) == Some(0),
         ),
         Scene {
             name: "keyboard word that alters a shown byte",
             set: |fixture| lay_table(&mut fixture.ram, |_| KEYBOARD),
-            steps: |fixture| vec![StepNumbers::keyboard(0, !fixture.ram[KEYBOARD])],
+            steps: |fixture| numbers([Step::Keyboard(0, !fixture.ram[KEYBOARD])]),
             holds: |made| matches!(made.altered(KEYBOARD), Some(1..)),
         },
     ]
@@ -227,18 +228,18 @@ fn lines() -> Vec<Scene> {
     vec![
         plain(
             "disc line",
-            |_| [true, false].map(StepNumbers::disc_line).to_vec(),
+            |_| numbers([true, false].map(Step::DiscLine)),
             |made| made.accepted() && made.after.board.disc.line as u32 == made.step.value,
         ),
         Scene {
             name: "disc line that shows NMI",
             set: |fixture| fixture.board.disc.route = ROUTE_NMI,
-            steps: |_| vec![StepNumbers::disc_line(true)],
+            steps: |_| numbers([Step::DiscLine(true)]),
             holds: |made| made.accepted() && made.reply.nmi(),
         },
         plain(
             "external line",
-            |_| [true, false].map(StepNumbers::external_line).to_vec(),
+            |_| numbers([true, false].map(Step::ExternalLine)),
             |made| made.accepted() && made.after.board.external as u32 == made.step.value,
         ),
     ]
@@ -246,15 +247,23 @@ fn lines() -> Vec<Scene> {
 
 /// A step of each kind, none of them wrong in itself.
 fn each_kind(_: &Fixture) -> Vec<StepNumbers> {
-    let numbers = [(0, 0), (0, 0), (0x5930, 1), (0xF8, 0), (0xF8, 0), (0, 0), (0, 1), (0, 1), (0, 1)];
-    (1..).zip(numbers).map(|(kind, (number, value))| StepNumbers::new(kind, number, value)).collect()
+    numbers([
+        Step::Fetch(0),
+        Step::Read(0),
+        Step::Write(0x5930, 1),
+        Step::PortIn(0xF8),
+        Step::PortOut(0xF8, 0),
+        Step::Scan,
+        Step::Keyboard(0, 1),
+        Step::DiscLine(true),
+        Step::ExternalLine(true),
+    ])
 }
 
 /// A step of each kind, and of two that are none, wrong in itself.
 fn wrong_numbers(_: &Fixture) -> Vec<StepNumbers> {
-    let numbers =
-        [(0, 0), (65_536, 0), (0, 1), (0, 256), (256, 0), (0xF8, 256), (1, 0), (16, 0), (0, 2), (1, 0), (0, 0)];
-    (0..).zip(numbers).map(|(kind, (number, value))| StepNumbers::new(kind, number, value)).collect()
+    let wrong = [(0, 0), (65_536, 0), (0, 1), (0, 256), (256, 0), (0xF8, 256), (1, 0), (16, 0), (0, 2), (1, 0), (0, 0)];
+    (0..).zip(wrong).map(|(kind, (number, value))| StepNumbers::new(kind, number, value)).collect()
 }
 
 fn refusals() -> Vec<Scene> {
@@ -263,20 +272,20 @@ fn refusals() -> Vec<Scene> {
             name: "refused with 1",
             set: |fixture| fixture.board.rate = 55,
             steps: each_kind,
-            holds: |made| made.refused(BAD_RECORD),
+            holds: |made| made.refused(Refusal::BAD_RECORD),
         },
         Scene {
             name: "refused with 2, for the RAM",
             set: |fixture| fixture.ram.truncate(8 * BLOCK),
             steps: each_kind,
-            holds: |made| made.refused(BAD_LENGTH),
+            holds: |made| made.refused(Refusal::BAD_LENGTH),
         },
         Scene {
             name: "refused with 2, for the boot stream",
             set: |fixture| fixture.boot.push(0),
             steps: each_kind,
-            holds: |made| made.refused(BAD_LENGTH),
+            holds: |made| made.refused(Refusal::BAD_LENGTH),
         },
-        plain("refused with 3", wrong_numbers, |made| made.refused(BAD_NUMBER)),
+        plain("refused with 3", wrong_numbers, |made| made.refused(Refusal::BAD_NUMBER)),
     ]
 }

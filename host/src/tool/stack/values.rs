@@ -3,11 +3,10 @@
 
 use crate::tool::fixture::lay_standard_table;
 use joyce::archive::{length, Fields, HEADER, MOST_FRAMES};
-use joyce::fuzz::{any_board, good_board, Rng};
-use joyce::machine::StepNumbers;
-use joyce::model::archive::{written, Frame};
-use joyce::model::PowerOn;
-use joyce::record::{Board, Sizes, BLOCK, BOOT_MAX, LINE_BYTES, PICTURE, STANDARD_RAM};
+use joyce::{Board, PowerOn, Sizes, Step, StepNumbers, BLOCK, BOOT_MAX, LINE_BYTES, PICTURE, WIDE_LINE_BYTES};
+use joyce_host::fuzz::{any_board, good_board, Rng};
+use joyce_host::model::archive::{written, Frame};
+use joyce_host::model::STANDARD_RAM;
 
 /// Archives of fewer frames than this are all there, beside the two largest. How they are looked over goes by their number.
 const FEW: usize = 25;
@@ -64,7 +63,7 @@ impl<'a> Values<'a> {
         let large = call < LARGE.len();
         let on = some_power_on(rng, large);
         let board = good_board(rng, &on);
-        let step = takes_kind.then(|| some_step(rng));
+        let step = takes_kind.then(|| some_step(rng).into());
         let few = rng.pick(&[4, 4, FEW]) as u64;
         let frames = if large { LARGE[call] } else { rng.below(few) as usize };
         let archive = if large { FEW + call } else { frames };
@@ -117,7 +116,7 @@ impl<'a> Values<'a> {
             "boot" => bytes.extend(&ram[at..at + self.rng.below(BOOT_MAX as u64 + 1) as usize]),
             "picture" | "a" | "b" => bytes.extend(&ram[at..at + PICTURE]),
             "line" => bytes.extend(&ram[at..at + LINE_BYTES]),
-            "out" => bytes.extend(&ram[at..at + 2 * LINE_BYTES]),
+            "out" => bytes.extend(&ram[at..at + WIDE_LINE_BYTES]),
             "archive" => bytes.extend(&self.source.archives[self.archive]),
             "room" => bytes.resize(bytes.len() + length(self.frames + 1) + self.rng.below(2) as usize, 0),
             _ => return false,
@@ -140,7 +139,7 @@ impl<'a> Values<'a> {
     /// Puts any bytes behind others: an archive, sound or not, or some of a length that the interface has, or one near it.
     pub fn any_bytes(&mut self, bytes: &mut Vec<u8>) {
         const LENGTHS: [usize; 9] =
-            [0, 8, HEADER, LINE_BYTES, 2 * LINE_BYTES, BOOT_MAX, PICTURE, STANDARD_RAM, 16 * BLOCK];
+            [0, 8, HEADER, LINE_BYTES, WIDE_LINE_BYTES, BOOT_MAX, PICTURE, STANDARD_RAM, 16 * BLOCK];
         let (right, archive) = (self.rng.pick(&LENGTHS), self.rng.below(4) as usize);
         match self.rng.below(8) {
             0..=1 => bytes.extend(&self.source.archives[archive]),
@@ -187,18 +186,18 @@ fn some_power_on(rng: &mut Rng, large: bool) -> PowerOn {
     }
 }
 
-fn some_step(rng: &mut Rng) -> StepNumbers {
+fn some_step(rng: &mut Rng) -> Step {
     let (address, byte, on) = (rng.word() as u16, rng.byte(), rng.once_in(2));
     let port = rng.pick(&[byte, 0xF0 | byte & 15, 0xF0 | byte & 15]);
     match rng.below(14) {
-        0 => StepNumbers::fetch(address),
-        1 => StepNumbers::read(address),
-        2..=4 => StepNumbers::write(address, byte),
-        5..=6 => StepNumbers::port_in(port),
-        7..=9 => StepNumbers::port_out(port, address as u8),
-        10 => StepNumbers::scan(),
-        11 => StepNumbers::keyboard(byte & 15, address as u8),
-        12 => StepNumbers::disc_line(on),
-        _ => StepNumbers::external_line(on),
+        0 => Step::Fetch(address),
+        1 => Step::Read(address),
+        2..=4 => Step::Write(address, byte),
+        5..=6 => Step::PortIn(port),
+        7..=9 => Step::PortOut(port, address as u8),
+        10 => Step::Scan,
+        11 => Step::Keyboard(byte & 15, address as u8),
+        12 => Step::DiscLine(on),
+        _ => Step::ExternalLine(on),
     }
 }

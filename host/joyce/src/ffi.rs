@@ -1,7 +1,10 @@
 //! The proved library behind its C interface.
 
-use crate::interface::Interface;
+use crate::interface::{Functions, Interface};
 use crate::record::Board;
+
+// The library is for machines of 64 bits: lengths are handed over as such.
+const _: () = assert!(core::mem::size_of::<usize>() == 8);
 
 extern "C" {
     fn joyce_version() -> u32;
@@ -55,9 +58,12 @@ extern "C" {
     ) -> u64;
 }
 
-/// The linked library.
-#[allow(non_upper_case_globals)]
-pub const Library: Interface = Interface {
+/// The linked library, as calls that give the whole reply.
+// SAFETY: the functions of libjoyce.a are proved to keep to what joyce.h says; who brings others in their place (the
+// feature `unlinked`) answers for those.
+pub const LIBRARY: Interface = unsafe { Interface::new(FUNCTIONS) };
+
+const FUNCTIONS: Functions = Functions {
     version: joyce_version,
     power_on: joyce_power_on,
     step: joyce_step,

@@ -1,60 +1,50 @@
-//! The answers about archives, and how a reply carries them. A refused one carries its refusal and nothing else.
+//! The answers about archives. A refused one carries its refusal and nothing else.
 
 use super::Reply;
 
-/// The length of the archive that a start or an add wrote.
+/// What a start or an add gives.
 #[derive(Clone, Copy, PartialEq, Eq, Debug, Default)]
 pub struct Length {
+    /// The bytes of the archive that was written.
     pub length: u32,
+    /// The number of the refusal, 0 for none.
     pub refusal: u8,
 }
 
-impl From<Length> for Reply {
-    fn from(l: Length) -> Reply {
-        Reply(l.length as u64 | Reply::refused(l.refusal))
-    }
-}
-
 impl From<Reply> for Length {
+    #[inline]
     fn from(r: Reply) -> Length {
         Length { length: r.0 as u32, refusal: r.refusal() }
     }
 }
 
-/// How many frames an archive has.
+/// What a count gives.
 #[derive(Clone, Copy, PartialEq, Eq, Debug, Default)]
 pub struct Count {
+    /// How many frames the archive holds.
     pub frames: u32,
+    /// The number of the refusal, 0 for none.
     pub refusal: u8,
 }
 
-impl From<Count> for Reply {
-    fn from(c: Count) -> Reply {
-        Reply(c.frames as u64 | Reply::refused(c.refusal))
-    }
-}
-
 impl From<Reply> for Count {
+    #[inline]
     fn from(r: Reply) -> Count {
         Count { frames: r.0 as u32, refusal: r.refusal() }
     }
 }
 
-/// Which entry has a bench and number, if one has.
+/// What a find gives.
 #[derive(Clone, Copy, PartialEq, Eq, Debug, Default)]
 pub struct Found {
+    /// The entry that has the bench and number, if one has.
     pub index: Option<u16>,
+    /// The number of the refusal, 0 for none.
     pub refusal: u8,
 }
 
-impl From<Found> for Reply {
-    fn from(f: Found) -> Reply {
-        let index = f.index.unwrap_or(0) as u64;
-        Reply(index | Reply::flag(f.index.is_some(), super::FOUND) | Reply::refused(f.refusal))
-    }
-}
-
 impl From<Reply> for Found {
+    #[inline]
     fn from(r: Reply) -> Found {
         Found { index: r.found().then_some(r.value()), refusal: r.refusal() }
     }
@@ -63,22 +53,18 @@ impl From<Reply> for Found {
 /// What an entry or a read gives.
 #[derive(Clone, Copy, PartialEq, Eq, Debug, Default)]
 pub struct Entry {
+    /// The frame's bench, 1 to 65,535.
     pub bench: u16,
+    /// The frame's number.
     pub number: u32,
-    /// 200, 256, or 0 where refused.
+    /// Shown lines: 200 or 256; 0 where refused.
     pub shown: u16,
+    /// The number of the refusal, 0 for none.
     pub refusal: u8,
 }
 
-impl From<Entry> for Reply {
-    fn from(e: Entry) -> Reply {
-        // 200 lines are a 1 and 256 lines a 2.
-        let shown = e.shown as u64 / 128;
-        Reply(e.number as u64 | Reply::refused(e.refusal) | (e.bench as u64) << 40 | shown << 56)
-    }
-}
-
 impl From<Reply> for Entry {
+    #[inline]
     fn from(r: Reply) -> Entry {
         let shown = match r.0 >> 56 & 3 {
             0 => 0,
