@@ -223,8 +223,15 @@ class Joyce(unittest.TestCase):
                 self.assertNotIn("host/target/joyce", self.left())
 
     def sleepers(self, mark):
-        found = subprocess.run(["pgrep", "-x", "-f", "sleep " + mark], capture_output=True, text=True).stdout
-        return found.split()
+        """The processes that sleep for just as long."""
+        found = []
+        for path in Path("/proc").glob("[0-9]*/cmdline"):
+            try:
+                if path.read_bytes() == b"sleep\0%s\0" % mark.encode():
+                    found.append(path.parent.name)
+            except OSError:
+                pass  # it has ended in between
+        return found
 
     def test_install(self):
         prefix = self.folder / "there"
