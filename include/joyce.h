@@ -20,12 +20,18 @@
  * RAM, in this machine's byte order, low first. What comes back is looked at like any record. The
  * dirty lines tell of one picture: after a return to saved state draw once, then refresh.
  *
- * Wiring a Z80: docs/WIRING.md, and examples/z80 is a whole host. In short, each read, write, IN and
- * OUT of the processor is a step, and so is each 64 us (256 T-states) a scan. In boot mode opcode
- * and operand bytes are fetches, not the opcode alone; a processor that cannot tell operands from
- * data sends every read in boot mode as a fetch. A port is the low eight bits of its address. INT
- * is a level, that of the latest reply; NMI is in one reply alone. After an out to F8 whose value
- * mod 16 is 1, reset the processor too: the reply does not say so. Wait states are not modelled.
+ * Wiring a Z80: docs/WIRING.md has the whole of it, and examples/z80 is a complete host. In short:
+ * - Each read, write, IN and OUT of the processor is a step, and so is each 64 us a scan: one for
+ *   every 256 T-states at 4 MHz. Wait states are not modelled.
+ * - In boot mode opcode and operand bytes are fetches, not the opcode alone; a processor that cannot
+ *   tell operands from data sends every read in boot mode as a fetch.
+ * - INT is a level: that of the latest reply, of whatever step. NMI is in one reply alone: keep it
+ *   until it is taken.
+ * - A port is the low eight bits of its address. A forwarded IN is given the byte of the host's own
+ *   device. For one with no device, for one refused with 5, and for the bus at an interrupt
+ *   acknowledge the papers leave the byte open; the 0 in the reply is no byte of the bus.
+ * - An out to F8 whose value mod 16 is 1 resets the processor too. The reply does not say so.
+ * - Refresh between any two steps, as often as wanted: once a frame, when clock.beam is back at 0.
  */
 #ifndef JOYCE_H
 #define JOYCE_H
