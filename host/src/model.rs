@@ -13,7 +13,7 @@ mod step;
 mod tests;
 
 pub use lines::LineSets;
-pub use memory::{reach, reach_list};
+pub use memory::{reach, reach_lines, GROUP, REACH_HEAD};
 pub use packed::Packed;
 pub use picture::{draw, refresh};
 pub use pure::{first_difference, make_pointer, next_dirty, read_pointer, roll, widen};

@@ -27,12 +27,17 @@ fn add(folder: &Path, number: &str) -> Output {
     joyce(folder, &words(number))
 }
 
-/// Adds where no file may be longer than some 40 kB, which is less than the archive will be.
-fn add_on_small_disc(folder: &Path, before: &str) -> Output {
+/// Runs the tool where no file may be longer than 40 blocks of 512 bytes.
+fn on_small_disc(folder: &Path, before: &str, words: &[&str]) -> Output {
     let script = format!("{before}ulimit -c 0; ulimit -f 40; exec \"$0\" \"$@\"");
     let mut shell = Command::new("sh");
-    shell.arg("-c").arg(script).arg(env!("CARGO_BIN_EXE_joyce")).args(words("3")).current_dir(folder);
+    shell.arg("-c").arg(script).arg(env!("CARGO_BIN_EXE_joyce")).args(words).current_dir(folder);
     shell.output().expect("a shell")
+}
+
+/// Adds where there is less room than the archive will need.
+fn add_on_small_disc(folder: &Path, before: &str) -> Output {
+    on_small_disc(folder, before, &words("3"))
 }
 
 #[test]
@@ -43,6 +48,21 @@ fn a_full_disc_leaves_the_old_archive() {
     complained(&add_on_small_disc(&folder, "trap '' XFSZ; "), "a: File too large");
     assert_eq!(fs::read(folder.join("a")).expect("the archive"), before);
     assert_eq!(names(&folder), ["a", "raw"]);
+}
+
+/// A picture of 200 lines fits, one of 256 does not.
+#[test]
+fn of_all_pictures_none_is_there_if_one_is_not() {
+    let folder = folder("disc-all");
+    fs::write(folder.join("raw"), [0x5A; 23_040]).expect("a picture");
+    assert!(joyce(&folder, &["archive", "new", "a"]).status.success());
+    let short = ["archive", "add", "a", "--bench", "1", "--number", "1", "raw", "--shown", "200"];
+    assert!(joyce(&folder, &short).status.success() && add(&folder, "2").status.success());
+    let output = on_small_disc(&folder, "trap '' XFSZ; ", &["archive", "extract", "a", "--all", "-o", "all"]);
+    complained(&output, "all/bench-00001-number-0000000002.pbm: File too large");
+    assert!(names(&folder.join("all")).is_empty() && said(&output).is_empty());
+    assert!(joyce(&folder, &["archive", "extract", "a", "--all", "-o", "all"]).status.success());
+    assert_eq!(names(&folder.join("all")).len(), 2);
 }
 
 #[test]

@@ -2,22 +2,14 @@
 
 mod common;
 
-use common::{complained, folder, joyce, names, said};
+use common::{complained, fed, folder, joyce, names, said};
 use std::fs;
-use std::io::Write;
-use std::process::{Command, Stdio};
+use std::process::Command;
 
 const PICTURE: usize = 23_040;
 
 fn reach(input: &[u8]) -> String {
-    let mut child = Command::new(env!("CARGO_BIN_EXE_joyce"))
-        .arg("reach")
-        .stdin(Stdio::piped())
-        .stdout(Stdio::piped())
-        .spawn()
-        .expect("the tool runs");
-    child.stdin.take().expect("a pipe").write_all(input).expect("input is read");
-    let output = child.wait_with_output().expect("the tool ends");
+    let output = fed(&folder("reach"), &["reach"], input);
     assert!(output.status.success());
     said(&output)
 }

@@ -30,10 +30,15 @@ pub fn reach(access: &Access) -> Reach {
     Reach { place: access.address & 0x3FFF, read, write, refusal: 0 }
 }
 
-/// The reach list of a run of 9-byte groups, each answered by `answer`.
-pub fn reach_list(input: &[u8], answer: impl Fn(&Access) -> Reach) -> String {
-    let mut text = String::from("REACH\n");
-    for group in input.chunks(9) {
+/// The first line of a reach list.
+pub const REACH_HEAD: &str = "REACH\n";
+/// Bytes in a group of a reach list.
+pub const GROUP: usize = 9;
+
+/// The lines of a reach list for a run of groups, each answered by `answer`. Only the last of all may be too short.
+pub fn reach_lines(groups: &[u8], answer: impl Fn(&Access) -> Reach) -> String {
+    let mut text = String::new();
+    for group in groups.chunks(GROUP) {
         let line = match group {
             &[internal, total, f0, f1, f2, f3, lock, low, high] => answer(&Access {
                 sizes: Sizes { internal, total },

@@ -171,10 +171,10 @@ fn reach_sample() {
         0x10, 0x10, 0x80, 0x25, 0x98, 0x87, 0x00, 0x00, 0x80, 0x10, 0x10, 0x80, 0x25, 0x98, 0x87, 0x00, 0x05, 0x40,
         0x10,
     ];
-    let text = reach_list(&input, reach);
-    assert_eq!(text, "REACH\nR 08 0000 W 08 0000\nR 02 0005 W 05 0005\nX 2\n");
-    assert_eq!(reach_list(&[], reach), "REACH\n");
-    assert_eq!(reach_list(&[7; 9], reach), "REACH\nX 6\n");
+    let text = reach_lines(&input, reach);
+    assert_eq!(text, "R 08 0000 W 08 0000\nR 02 0005 W 05 0005\nX 2\n");
+    assert_eq!(reach_lines(&[], reach), "");
+    assert_eq!(reach_lines(&[7; 9], reach), "X 6\n");
 }
 
 #[test]

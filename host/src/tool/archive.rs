@@ -5,46 +5,33 @@ mod extract;
 mod kept;
 
 use super::args::Args;
+use super::destination::Destination;
 use super::lock::Lock;
-use super::{files, out, pbm, preview};
+use super::out::Out;
+use super::{files, input, out, picture, preview};
+pub use check::run as check;
+pub use extract::run as extract;
 use joyce::archive::{Entry, Fields};
 use joyce::{LINE_BYTES, PICTURE};
 use joyce_host::machine::Machine;
 pub use kept::Kept;
 use std::fs;
 
-const COMMANDS: &str = "new, add, list, show, extract, check or find (see joyce help)";
-
-/// True for success, false for an archive that is not sound or a frame that is not there.
-pub fn run(machine: &dyn Machine, arguments: &[String]) -> Result<bool, String> {
-    let (command, rest) = arguments.split_first().ok_or(format!("archive: expected {COMMANDS}"))?;
-    match command.as_str() {
-        "new" => new(machine, rest).map(|()| true),
-        "add" => add(machine, rest).map(|()| true),
-        "list" => list(machine, rest).map(|()| true),
-        "show" => show(machine, rest).map(|()| true),
-        "extract" => extract::run(machine, rest).map(|()| true),
-        "check" => check::run(machine, rest),
-        "find" => find(machine, rest),
-        other => Err(format!("archive: unknown command {other}; expected {COMMANDS}")),
-    }
-}
-
-fn new(machine: &dyn Machine, rest: &[String]) -> Result<(), String> {
-    let args = Args::parse(rest, &[])?;
+pub fn new(machine: &dyn Machine, args: &Args) -> Result<bool, String> {
     args.expect_words(1, "one FILE")?;
     let path = args.words[0].as_str();
     let there = || format!("{path}: there already; it is left as it is");
     if fs::symlink_metadata(path).is_ok() {
         return Err(there());
     }
-    let _lock = Lock::take(path)?;
+    let file = Destination::file_of(path)?;
+    let _lock = Lock::take(&file)?;
     // Another may have made it in between.
     if fs::symlink_metadata(path).is_ok() {
         return Err(there());
     }
-    files::write(path, &Kept::started(machine, path)?.bytes)?;
-    out::line(&format!("{path}: an archive of no frames"))
+    files::write(&file, &Kept::started(machine, path)?.bytes, &format!("{path}: an archive of no frames"))?;
+    Ok(true)
 }
 
 /// A number of 32 bits that must be given.
@@ -61,25 +48,24 @@ fn index(text: &str) -> Result<u32, String> {
     text.parse().map_err(|_| format!("{text} is not the index of an entry; they count from 0"))
 }
 
-fn add(machine: &dyn Machine, rest: &[String]) -> Result<(), String> {
-    let args = Args::parse(rest, &["--bench", "--number", "--shown"])?;
+pub fn add(machine: &dyn Machine, args: &Args) -> Result<bool, String> {
     args.expect_words(2, "FILE and PICTURE")?;
     let (path, picture) = (args.words[0].as_str(), args.words[1].as_str());
-    let (bench, number) = (number(&args, "--bench")?, number(&args, "--number")?);
-    let lines = pbm::decode_lines(&files::read(picture)?).map_err(|error| format!("{picture}: {error}"))?;
-    let shown = shown_lines(&args, picture, lines.len() / LINE_BYTES)?;
+    let (bench, number) = (number(args, "--bench")?, number(args, "--number")?);
+    let file = Destination::file_of(path)?;
+    let lines = picture::read_lines(picture)?;
+    let shown = shown_lines(args, input::shown(picture), lines.len() / LINE_BYTES)?;
     let mut whole = lines;
     whole.resize(PICTURE, 0);
 
     Kept::open(machine, path)?;
-    let lock = Lock::take(path)?;
+    let _lock = Lock::take(&file)?;
     // Another may have added to it in between.
     let kept = Kept::open(machine, path)?;
     let next = kept.with(Fields::new(bench, number, shown), &whole)?;
-    files::write(path, &next)?;
-    drop(lock);
-    let k = kept.count()?;
-    out::line(&format!("{path}: entry {k}: bench {bench}, number {number}, {shown} lines; {} bytes", next.len()))
+    let entry = format!("entry {}: bench {bench}, number {number}, {shown} lines", kept.count()?);
+    files::write(&file, &next, &format!("{path}: {entry}; {} bytes", next.len()))?;
+    Ok(true)
 }
 
 /// How many lines are kept of a picture that has as many.
@@ -91,8 +77,7 @@ fn shown_lines(args: &Args, picture: &str, lines: usize) -> Result<u32, String> 
     }
 }
 
-fn list(machine: &dyn Machine, rest: &[String]) -> Result<(), String> {
-    let args = Args::parse(rest, &[])?;
+pub fn list(machine: &dyn Machine, args: &Args) -> Result<bool, String> {
     args.expect_words(1, "one FILE")?;
     let kept = Kept::open(machine, &args.words[0])?;
     let count = kept.count()?;
@@ -101,22 +86,22 @@ fn list(machine: &dyn Machine, rest: &[String]) -> Result<(), String> {
         let Entry { bench, number, shown, .. } = kept.entry(k)?;
         out::line(&format!("{k:>5}{bench:>8}{number:>13}{shown:>8}"))?;
     }
-    Ok(())
+    Ok(true)
 }
 
-fn show(machine: &dyn Machine, rest: &[String]) -> Result<(), String> {
-    let args = Args::parse(rest, &[])?;
+pub fn show(machine: &dyn Machine, args: &Args) -> Result<bool, String> {
     args.expect_words(2, "FILE and the index of an entry")?;
     let k = index(&args.words[1])?;
     let (entry, lines) = Kept::open(machine, &args.words[0])?.read(k)?;
-    out::write(&preview::preview(&lines))?;
-    out::line(&format!("entry {k}: bench {}, number {}, {} lines", entry.bench, entry.number, entry.shown))
+    preview::write(Out::Standard, &lines)?;
+    out::line(&format!("entry {k}: bench {}, number {}, {} lines", entry.bench, entry.number, entry.shown))?;
+    Ok(true)
 }
 
-fn find(machine: &dyn Machine, rest: &[String]) -> Result<bool, String> {
-    let args = Args::parse(rest, &["--bench", "--number"])?;
+/// True if the frame is there.
+pub fn find(machine: &dyn Machine, args: &Args) -> Result<bool, String> {
     args.expect_words(1, "one FILE")?;
-    let (bench, number) = (number(&args, "--bench")?, number(&args, "--number")?);
+    let (bench, number) = (number(args, "--bench")?, number(args, "--number")?);
     let index = Kept::open(machine, &args.words[0])?.find(bench, number)?;
     match index {
         Some(k) => out::line(&format!("entry {k}"))?,

@@ -1,42 +1,55 @@
-//! Plain reading of the command line: words and flags with a value.
+//! Plain reading of the command line: words, flags with a value, and switches without one.
 
 use std::collections::BTreeMap;
+use std::slice::Iter;
 
+#[derive(Default)]
 pub struct Args {
     pub words: Vec<String>,
     flags: BTreeMap<String, String>,
     switches: Vec<String>,
 }
 
-impl Args {
-    /// Takes the arguments apart. Every flag takes a value; one that is not `known` is an error.
-    pub fn parse(arguments: &[String], known: &[&str]) -> Result<Args, String> {
-        Args::parse_with(arguments, known, &[])
-    }
+/// Whether an argument is a flag or a switch. A - by itself is a name.
+fn is_flag(argument: &str) -> bool {
+    argument.starts_with('-') && argument != "-"
+}
 
-    /// As `parse`, with switches: flags that take no value.
-    pub fn parse_with(arguments: &[String], known: &[&str], switches: &[&str]) -> Result<Args, String> {
-        let mut args = Args { words: Vec::new(), flags: BTreeMap::new(), switches: Vec::new() };
+impl Args {
+    /// Takes the arguments apart. A flag or switch that is not known is an error; behind a -- all are words.
+    pub fn parse(arguments: &[String], flags: &[&str], switches: &[&str]) -> Result<Args, String> {
+        let mut args = Args::default();
         let mut rest = arguments.iter();
         while let Some(argument) = rest.next() {
-            if !argument.starts_with('-') {
+            let (name, joined) = match argument.split_once('=') {
+                Some((name, value)) if name.starts_with("--") => (name, Some(value)),
+                _ => (argument.as_str(), None),
+            };
+            if name == "--" && joined.is_none() {
+                args.words.extend(rest.by_ref().cloned());
+            } else if !is_flag(argument) {
                 args.words.push(argument.clone());
-                continue;
-            }
-            if switches.contains(&argument.as_str()) {
-                args.switches.push(argument.clone());
-                continue;
-            }
-            if !known.contains(&argument.as_str()) {
-                return Err(format!("unknown flag {argument}"));
-            }
-            let value = rest.next().filter(|next| !next.starts_with('-'));
-            let value = value.ok_or(format!("{argument} needs a value"))?;
-            if args.flags.insert(argument.clone(), value.clone()).is_some() {
-                return Err(format!("{argument} is given twice"));
+            } else if flags.contains(&name) {
+                args.take_flag(name, joined, &mut rest)?;
+            } else if !switches.contains(&name) {
+                return Err(format!("unknown flag {name}"));
+            } else if joined.is_some() {
+                return Err(format!("{name} takes no value"));
+            } else {
+                args.switches.push(name.to_string());
             }
         }
         Ok(args)
+    }
+
+    /// A flag's value is joined to it by =, or the next argument.
+    fn take_flag(&mut self, name: &str, joined: Option<&str>, rest: &mut Iter<String>) -> Result<(), String> {
+        let value = joined.or_else(|| rest.next().map(String::as_str).filter(|next| !is_flag(next)));
+        let value = value.filter(|value| !value.is_empty()).ok_or(format!("{name} needs a value"))?;
+        match self.flags.insert(name.to_string(), value.to_string()) {
+            None => Ok(()),
+            Some(_) => Err(format!("{name} is given twice")),
+        }
     }
 
     /// Refuses any number of words but this.
@@ -76,6 +89,48 @@ impl Args {
         match u8::from_str_radix(plain, 16) {
             Ok(byte) if digits => Ok(byte),
             _ => Err(format!("{flag}: {text} is not a byte in hex (00 to FF)")),
+        }
+    }
+}
+
+#[cfg(test)]
+mod tests {
+    use super::*;
+
+    fn parsed(text: &str) -> Result<Args, String> {
+        let words: Vec<String> = text.split(' ').map(str::to_string).collect();
+        Args::parse(&words, &["-o", "--f5"], &["--all"])
+    }
+
+    #[test]
+    fn flags_words_and_switches() {
+        let args = parsed("a --f5=5B -o - --all - b").expect("arguments");
+        assert_eq!(args.words, ["a", "-", "b"]);
+        assert_eq!((args.text("--f5"), args.text("-o"), args.has("--all")), (Some("5B"), Some("-"), true));
+        let args = parsed("--f5 5B -- -o --all -- -").expect("arguments");
+        assert_eq!(args.words, ["-o", "--all", "--", "-"]);
+        assert_eq!((args.text("--f5"), args.text("-o"), args.has("--all")), (Some("5B"), None, false));
+        // What is behind the first = is the value, whatever it looks like.
+        assert_eq!(parsed("--f5=-1").expect("arguments").text("--f5"), Some("-1"));
+        assert_eq!(parsed("--f5=a=b").expect("arguments").text("--f5"), Some("a=b"));
+    }
+
+    #[test]
+    fn errors() {
+        for (text, error) in [
+            ("-o", "-o needs a value"),
+            ("-o --f5", "-o needs a value"),
+            ("-o --", "-o needs a value"),
+            ("--f5=", "--f5 needs a value"),
+            ("-o x -o y", "-o is given twice"),
+            ("--f5=1 --f5 1", "--f5 is given twice"),
+            ("--all=yes", "--all takes no value"),
+            ("--colour=red", "unknown flag --colour"),
+            ("-o=x", "unknown flag -o=x"),
+            ("-ox", "unknown flag -ox"),
+            ("--=x", "unknown flag --"),
+        ] {
+            assert_eq!(parsed(text).err().as_deref(), Some(error), "{text}");
         }
     }
 }

@@ -86,8 +86,7 @@ impl Bench<'_> {
     }
 }
 
-pub fn run(library: &dyn Machine, arguments: &[String]) -> Result<(), String> {
-    let args = Args::parse(arguments, &["--ms"])?;
+pub fn run(library: &dyn Machine, args: &Args) -> Result<bool, String> {
     args.expect_words(0, "flags only")?;
     let ms = args.number("--ms", 60)?;
     if !(1..=10_000).contains(&ms) {
@@ -96,12 +95,12 @@ pub fn run(library: &dyn Machine, arguments: &[String]) -> Result<(), String> {
     let budget = Duration::from_millis(ms) / PASSES;
     let bench = Bench { library, budget, best: RefCell::default(), next: Cell::default(), last: Cell::default() };
     for pass in 1..=PASSES {
-        eprintln!("pass {pass} of {PASSES}");
+        out::note(&format!("pass {pass} of {PASSES}\n"));
         bench.next.set(0);
         bench.last.set(pass == PASSES);
         table(&bench)?;
     }
-    Ok(())
+    Ok(true)
 }
 
 fn table(bench: &Bench) -> Result<(), String> {

@@ -1,78 +1,112 @@
 //! `joyce demo`: a ledger page on a board's screen, kept up to date by refreshes.
 
+mod page;
+mod places;
+mod refreshed;
+
 use super::archive::Kept;
 use super::args::Args;
+use super::files::Batch;
+use super::out::Out;
 use super::screen::{row_place, Screen, COLUMNS, COLUMN_ACROSS, ROW_ACROSS};
-use super::{files, ledger, out, pbm, preview};
+use super::{ledger, picture, preview};
 use joyce::archive::Fields;
-use joyce::{Difference, Drawn, Step, LINE_BYTES, PICTURE};
+use joyce::{Difference, Step};
 use joyce_host::machine::Machine;
-use std::fs;
-use std::path::Path;
+use places::Places;
+use refreshed::Refreshed;
 
 const FRAME: u32 = 312;
 /// Bench and number that the entered line's screen is kept under, and its lines at 50 Hz.
 const KEPT: Fields = Fields { bench: 12, number: 345, shown: 256 };
+/// Which of the refreshes shows the entered line.
+const ENTERED: usize = 1;
 
-pub fn run(machine: &dyn Machine, arguments: &[String]) -> Result<(), String> {
-    let args = Args::parse(arguments, &["-o"])?;
-    args.expect_words(0, "no file but that of -o")?;
-    let output = args.text("-o").unwrap_or("demo.pbm");
-    let archive = archive_beside(machine, output)?;
-    let mut screen = Screen::start(machine)?;
+pub fn run(machine: &dyn Machine, args: &Args) -> Result<bool, String> {
+    args.expect_words(0, "no file but those of -o and --html")?;
+    let places = Places::of(machine, args)?;
+    let out = places.out();
+    let mut demo = Demo { screen: Screen::start(machine)?, out, refreshed: Vec::new() };
+    demo.play()?;
 
-    write_page(&mut screen)?;
-    report(&mut screen, "the page is put up")?;
-    look_across(&screen)?;
-    enter_line(&mut screen)?;
-    report(&mut screen, "the clerk enters a line")?;
-    let entered = screen.picture.clone();
-    invert_cell(&mut screen)?;
-    report(&mut screen, "one cell is inverted")?;
-    let ticks = scan_frames(&mut screen, 50)?;
-    report(&mut screen, &format!("50 frames are scanned, {ticks} ticks counted"))?;
-    let roll = roll_up(&mut screen)?;
-    report(&mut screen, &format!("the page rolls up by {roll} lines"))?;
-    same_again(&mut screen)?;
-    report(&mut screen, "two rows are written again as they stand")?;
-
-    files::write(output, &pbm::encode(&screen.picture))?;
-    out::write(&preview::preview(&screen.picture))?;
-    out::line(&format!("{} steps made; picture in {output}", screen.steps))?;
-    keep(machine, &archive, &entered)
-}
-
-/// The archive's name: the picture's, with another ending.
-fn archive_beside(machine: &dyn Machine, picture: &str) -> Result<String, String> {
-    let path = Path::new(picture).with_extension("archive").display().to_string();
-    if path == picture && picture.ends_with(".archive") {
-        return Err(format!("-o: {picture} is where the archive goes; name the picture otherwise"));
+    let Demo { screen, refreshed, .. } = &demo;
+    let entered = &refreshed[ENTERED].picture;
+    let mut batch = Batch::default();
+    batch.add(&places.picture, &picture::encode(&places.picture.name, &screen.picture))?;
+    if let Some(archive) = &places.archive {
+        batch.add(archive, &Kept::started(machine, &archive.name)?.with(KEPT, entered)?)?;
     }
-    // What is no file name at all stays as it is, and is refused when it is written.
-    if path != picture && fs::symlink_metadata(&path).is_ok() && !of_a_demo(machine, &path) {
-        return Err(format!("{path}: there already, and not from a demo; give the picture another name by -o"));
+    if let Some(page) = &places.page {
+        batch.add(page, page::html(refreshed).as_bytes())?;
     }
-    Ok(path)
+
+    preview::write(out, &screen.picture)?;
+    out.line(&format!("{} steps made; picture {}", screen.steps, places.picture.place()))?;
+    if let Some(archive) = &places.archive {
+        out.line(&looked_up(&Kept::of(machine, &archive.name, batch.read_back(archive)?), entered)?)?;
+    }
+    if let Some(page) = &places.page {
+        out.line(&format!("{} pictures on the page {}", refreshed.len(), page.place()))?;
+    }
+    batch.done()?;
+    Ok(true)
 }
 
-/// Whether an archive is what a demo leaves, and may be written over by the next one.
-fn of_a_demo(machine: &dyn Machine, path: &str) -> bool {
-    let found = Kept::open(machine, path).and_then(|kept| Ok((kept.count()?, kept.find(KEPT.bench, KEPT.number)?)));
-    found == Ok((1, Some(0)))
-}
-
-/// Keeps a screen in an archive beside the picture, and reads it back from the file.
-fn keep(machine: &dyn Machine, path: &str, screen: &[u8]) -> Result<(), String> {
-    files::write(path, &Kept::started(machine, path)?.with(KEPT, screen)?)?;
-    let (entry, read) = Kept::open(machine, path)?.read(0)?;
-    let difference = Difference::from(machine.first_difference(&read, screen));
+/// Looks the kept screen up in its archive.
+fn looked_up(kept: &Kept, screen: &[u8]) -> Result<String, String> {
+    let path = kept.path;
+    let (entry, read) = kept.read(0)?;
+    let difference = Difference::from(kept.machine.first_difference(&read, screen));
     if difference != Difference::default() {
         return Err(format!("{path}: read back, the screen is another: {difference:?}"));
     }
-    out::line(&format!(
+    Ok(format!(
         "the screen with the line entered is kept in {path}: bench {}, number {}; read back, it is the same",
         entry.bench, entry.number
     ))
+}
+
+struct Demo<'m> {
+    screen: Screen<'m>,
+    out: Out,
+    refreshed: Vec<Refreshed>,
+}
+
+impl Demo<'_> {
+    fn play(&mut self) -> Result<(), String> {
+        write_page(&mut self.screen)?;
+        self.refresh("the page is put up", "The screen was dark. The whole page is new, so every line is sent.")?;
+        self.out.line(&look_across(&self.screen)?)?;
+        enter_line(&mut self.screen)?;
+        let why = "A row of letters is eight lines high. Only those eight have changed.";
+        self.refresh("the clerk enters a line", why)?;
+        invert_cell(&mut self.screen)?;
+        let why = "A block, one letter wide, is lit behind the entry, as a cursor is. It is in the same eight lines.";
+        self.refresh("one cell is inverted", why)?;
+        let ticks = scan_frames(&mut self.screen, 50)?;
+        let why = "A second goes by. The monitor shows the picture fifty times and a timer ticks, but no dot changes.";
+        self.refresh(&format!("50 frames are scanned, {ticks} ticks counted"), why)?;
+        let roll = roll_up(&mut self.screen)?;
+        let why = "The page moves up by a row. Every line of the screen now has another line of the page, and is sent.";
+        self.refresh(&format!("the page rolls up by {roll} lines"), why)?;
+        same_again(&mut self.screen)?;
+        let why = "The same letters are written over themselves. No dot changes, and the box notices that.";
+        self.refresh("two rows are written again as they stand", why)
+    }
+
+    /// Refreshes the picture, after something has happened, and tells what that sent.
+    fn refresh(&mut self, what: &str, why: &'static str) -> Result<(), String> {
+        let lines = self.screen.dirty_lines()?;
+        let drawn = self.screen.refresh()?;
+        if drawn.count as usize != lines.len() {
+            return Err(format!("{what}: {} lines drawn, but {} were dirty", drawn.count, lines.len()));
+        }
+        let (what, picture) = (what.to_string(), self.screen.picture.clone());
+        let refreshed = Refreshed { what, why, lines, floating: drawn.floating, picture };
+        self.out.line(&format!("{}: {}", refreshed.what, refreshed.sums()))?;
+        self.refreshed.push(refreshed);
+        Ok(())
+    }
 }
 
 fn write_page(screen: &mut Screen) -> Result<(), String> {
@@ -81,7 +115,7 @@ fn write_page(screen: &mut Screen) -> Result<(), String> {
 }
 
 /// Looks in the picture at the row that runs over the end of a block: what is past it must be there, and whole.
-fn look_across(screen: &Screen) -> Result<(), String> {
+fn look_across(screen: &Screen) -> Result<String, String> {
     let (block, place) = row_place(ROW_ACROSS);
     let row = format!("{:<COLUMNS$}", ledger::page()[ROW_ACROSS]);
     let (end, last) = (&row[COLUMN_ACROSS..], COLUMNS - 1);
@@ -89,7 +123,7 @@ fn look_across(screen: &Screen) -> Result<(), String> {
     if !screen.shows(ROW_ACROSS, COLUMN_ACROSS, end) {
         return Err(format!("{across}, but columns {COLUMN_ACROSS} to {last} of the picture do not read \"{end}\""));
     }
-    out::line(&format!("{across}: columns {COLUMN_ACROSS} to {last} read \"{end}\""))
+    Ok(format!("{across}: columns {COLUMN_ACROSS} to {last} read \"{end}\""))
 }
 
 fn enter_line(screen: &mut Screen) -> Result<(), String> {
@@ -128,14 +162,6 @@ fn roll_up(screen: &mut Screen) -> Result<i8, String> {
 fn same_again(screen: &mut Screen) -> Result<(), String> {
     let page = ledger::page();
     [1, 2].into_iter().try_for_each(|row| screen.row(row, &page[row]))
-}
-
-fn report(screen: &mut Screen, what: &str) -> Result<(), String> {
-    let Drawn { count, floating, .. } = screen.refresh()?;
-    let sent = count as usize * LINE_BYTES;
-    let aside = if floating { " (the video is floating)" } else { "" };
-    let saved = PICTURE - sent;
-    out::line(&format!("{what}: {count} lines, {sent} bytes down the cable, {saved} saved of {PICTURE}{aside}"))
 }
 
 #[cfg(all(test, feature = "standin"))]

@@ -1,5 +1,6 @@
 //! A lock file beside an archive, so that of two that add at once the second waits for the first.
 
+use super::destination::Destination;
 use super::files;
 use std::fs::{self, OpenOptions};
 use std::io::{ErrorKind, Write};
@@ -14,8 +15,9 @@ const PATIENCE: Duration = Duration::from_secs(2);
 pub struct Lock(PathBuf);
 
 impl Lock {
-    pub fn take(path: &str) -> Result<Lock, String> {
-        let lock = files::named_beside(&files::target(path)?, "", ".lock");
+    pub fn take(archive: &Destination) -> Result<Lock, String> {
+        let path = &archive.name;
+        let lock = archive.file().and_then(|file| files::named_beside(file, "", ".lock"));
         let lock = lock.ok_or(format!("{path}: not a file name"))?;
         let start = Instant::now();
         loop {

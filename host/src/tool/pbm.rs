@@ -1,4 +1,4 @@
-//! Pictures in files: PBM P4 of 720 x 256 or the 23,040 bytes by themselves; of 200 lines, 720 x 200 or 18,000 bytes.
+//! Pictures as bare bits: PBM P4 of 720 x 256, or 23,040 bytes by themselves; of 200 lines, 720 x 200, or 18,000 bytes.
 
 use joyce::{LINES, LINE_BYTES};
 
@@ -31,7 +31,10 @@ fn decode_as(bytes: &[u8], heights: &[usize]) -> Result<Vec<u8>, String> {
     }
     if !pbm {
         let raw = choice(heights, |lines| (lines * LINE_BYTES).to_string());
-        return Err(format!("{} bytes: neither a PBM P4 file nor a raw picture of {raw} bytes", bytes.len()));
+        return Err(format!(
+            "{} bytes: neither a PBM P4 file nor a raw picture of {raw} bytes, nor a PNG",
+            bytes.len()
+        ));
     }
     let (width, at) = number(bytes, 2)?;
     let (height, at) = number(bytes, at)?;

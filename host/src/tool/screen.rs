@@ -4,7 +4,8 @@
 //! block 2, 332Fh, and the pointer table in block 2 at 3600h. Row 13 runs over the end of block 1, from column 72 on.
 
 use super::font::Font;
-use joyce::{Answer, Board, Drawn, MadePointer, PowerOn, Sizes, Step, StepNumbers, BLOCK, LINE_BYTES, PICTURE};
+use joyce::{Answer, Board, Drawn, MadePointer, NextLine, PowerOn, Sizes, Step, StepNumbers};
+use joyce::{BLOCK, LINES, LINE_BYTES, PICTURE};
 use joyce_host::machine::Machine;
 
 pub const COLUMNS: usize = 90;
@@ -107,6 +108,24 @@ impl<'m> Screen<'m> {
             let cell = 8 * row * LINE_BYTES + column;
             (0..8).all(|line| self.picture[cell + line * LINE_BYTES] == self.font.glyph(letter)[line])
         })
+    }
+
+    /// The lines that the next refresh will draw, in order.
+    pub fn dirty_lines(&self) -> Result<Vec<u8>, String> {
+        let mut lines = Vec::new();
+        let mut from = 0;
+        while from < LINES as u32 {
+            let next = NextLine::from(self.machine.next_dirty(&self.board, from));
+            match (next.refusal, next.line) {
+                (0, Some(line)) => {
+                    lines.push(line);
+                    from = u32::from(line) + 1;
+                }
+                (0, None) => break,
+                (refusal, _) => return Err(format!("the next dirty line refused with {refusal}")),
+            }
+        }
+        Ok(lines)
     }
 
     /// Brings the picture up to date.

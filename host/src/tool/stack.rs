@@ -14,6 +14,7 @@ use super::out;
 use caller::Stack;
 use functions::{Function, FUNCTIONS};
 use joyce_host::fuzz::Rng;
+use joyce_host::machine::Machine;
 use report::Row;
 use values::Source;
 
@@ -28,8 +29,7 @@ const MOST: usize = BOX - KEPT;
 const STEP: &str = "joyce_step";
 
 /// True if no function uses more than a call may.
-pub fn run(arguments: &[String]) -> Result<bool, String> {
-    let args = Args::parse(arguments, &["--limit"])?;
+pub fn run(_: &dyn Machine, args: &Args) -> Result<bool, String> {
     args.expect_words(0, "flags only")?;
     let limit = args.number("--limit", MOST as u64)? as usize;
     let rows = rows()?;

@@ -2,7 +2,7 @@
 
 use super::Kept;
 use crate::tool::args::Args;
-use crate::tool::out;
+use crate::tool::{input, out};
 use joyce::archive::{entry_at, length, picture_at, pictures_at, ENTRY, FORM, HEADER, MOST_BENCH, MOST_FRAMES};
 use joyce::{Refusal, LINE_BYTES, PICTURE};
 use joyce_host::machine::Machine;
@@ -24,11 +24,10 @@ impl fmt::Display for Unsound {
 }
 
 /// True if the archive is sound.
-pub fn run(machine: &dyn Machine, rest: &[String]) -> Result<bool, String> {
-    let args = Args::parse(rest, &[])?;
+pub fn run(machine: &dyn Machine, args: &Args) -> Result<bool, String> {
     args.expect_words(1, "one FILE")?;
-    let path = &args.words[0];
-    let kept = Kept::open(machine, path)?;
+    let kept = Kept::open_any(machine, &args.words[0])?;
+    let path = input::shown(&args.words[0]);
     let counted = kept.counted();
     let looked_over = Look { bytes: &kept.bytes, file_length: kept.file_length }.over();
     match (counted.accepted(), looked_over) {

@@ -1,50 +1,60 @@
 //! An archive in a file, looked at through the library, and what its refusals mean to a user.
 
+use crate::tool::input::{self, Input};
 use joyce::archive::{length, Count, Entry, Fields, Found, Length, MOST_BENCH, MOST_FRAMES};
 use joyce::{Refusal, LINE_BYTES, PICTURE};
 use joyce_host::machine::Machine;
-use std::fs::File;
-use std::io::{ErrorKind, Read};
+use std::fs;
+use std::io::ErrorKind;
 
 pub struct Kept<'m> {
-    machine: &'m dyn Machine,
-    path: &'m str,
+    pub machine: &'m dyn Machine,
+    pub path: &'m str,
     pub bytes: Vec<u8>,
     /// What the file has; of more than an archive can have, only one byte more is read.
     pub file_length: u64,
 }
 
 impl<'m> Kept<'m> {
+    /// An archive that was read or made already, and the file that it is of.
+    pub fn of(machine: &'m dyn Machine, path: &'m str, bytes: Vec<u8>) -> Kept<'m> {
+        Kept { machine, path, file_length: bytes.len() as u64, bytes }
+    }
+
     /// An archive of no frames, not yet in its file.
     pub fn started(machine: &'m dyn Machine, path: &'m str) -> Result<Kept<'m>, String> {
         let mut bytes = vec![0; length(0)];
         match Length::from(machine.archive_start(&mut bytes)).accepted() {
-            Ok(_) => Ok(Kept { machine, path, file_length: bytes.len() as u64, bytes }),
+            Ok(_) => Ok(Kept::of(machine, path, bytes)),
             Err(Refusal(number)) => Err(format!("{path}: an archive cannot be started: refused with {number}")),
         }
     }
 
+    /// The archive in a file. One whose length no archive has is refused and not read.
     pub fn open(machine: &'m dyn Machine, path: &'m str) -> Result<Kept<'m>, String> {
-        let failed = |error: std::io::Error| match error.kind() {
-            ErrorKind::NotFound => format!("{path}: no such file; `joyce archive new {path}` makes one"),
-            _ => format!("{path}: {error}"),
-        };
-        let file = File::open(path).map_err(failed)?;
-        let found = file.metadata().map_err(failed)?;
-        if !found.is_file() {
-            return Err(format!("{path}: not a regular file"));
-        }
-        let mut bytes = Vec::new();
-        file.take(length(MOST_FRAMES) as u64 + 1).read_to_end(&mut bytes).map_err(failed)?;
-        Ok(Kept { machine, path, bytes, file_length: found.len() })
+        regular(path)?;
+        let (bytes, ()) = input::read(path, length(MOST_FRAMES), |found| {
+            let right = (0..=MOST_FRAMES).any(|n| found == input::Length::Exactly(length(n) as u64));
+            right.then_some(()).ok_or_else(|| unsound(path))
+        })?;
+        Ok(Kept::of(machine, path, bytes))
+    }
+
+    /// As `open`, of any length, to look what is wrong.
+    pub fn open_any(machine: &'m dyn Machine, path: &'m str) -> Result<Kept<'m>, String> {
+        regular(path)?;
+        let mut input = Input::open(path)?;
+        let bytes = input.piece(length(MOST_FRAMES) + 1)?;
+        let file_length = input.length.unwrap_or(bytes.len() as u64);
+        Ok(Kept { file_length, ..Kept::of(machine, path, bytes) })
     }
 
     fn refused(&self, refusal: Refusal) -> String {
-        let path = self.path;
-        match refusal {
-            Refusal::BAD_ARCHIVE => format!("{path}: not a sound archive; `joyce archive check {path}` says where"),
-            Refusal(number) => format!("{path}: refused with {number}"),
-        }
+        let why = match refusal {
+            Refusal::BAD_ARCHIVE => unsound(self.path),
+            Refusal(number) => format!("refused with {number}"),
+        };
+        format!("{}: {why}", input::shown(self.path))
     }
 
     /// The library's answer, its refusal included.
@@ -58,7 +68,9 @@ impl<'m> Kept<'m> {
 
     fn given(&self, k: u32, entry: Entry) -> Result<Entry, String> {
         match entry.accepted() {
-            Err(Refusal::BAD_FRAME) => Err(format!("{}: no entry {k}; it has {}", self.path, frames(self.count()?))),
+            Err(Refusal::BAD_FRAME) => {
+                Err(format!("{}: no entry {k}; it has {}", input::shown(self.path), frames(self.count()?)))
+            }
             given => given.map_err(|refusal| self.refused(refusal)),
         }
     }
@@ -105,6 +117,23 @@ impl<'m> Kept<'m> {
             }
             _ => self.refused(refusal),
         })
+    }
+}
+
+fn unsound(path: &str) -> String {
+    format!("not a sound archive; `joyce archive check {path}` says where")
+}
+
+/// An archive is in a regular file, or comes from standard input; another thing might never end.
+fn regular(path: &str) -> Result<(), String> {
+    match fs::metadata(path) {
+        _ if path == "-" => Ok(()),
+        Ok(found) if found.is_file() => Ok(()),
+        Ok(_) => Err(format!("{path}: not a regular file")),
+        Err(error) if error.kind() == ErrorKind::NotFound => {
+            Err(format!("{path}: no such file; `joyce archive new {path}` makes one"))
+        }
+        Err(error) => Err(format!("{path}: {error}")),
     }
 }
 
