@@ -17,7 +17,7 @@ pub enum Type {
     ConstBytes,
 }
 
-#[derive(PartialEq, Debug)]
+#[derive(PartialEq, Eq, Debug)]
 pub struct Prototype {
     pub name: String,
     pub result: Type,

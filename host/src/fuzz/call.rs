@@ -3,7 +3,7 @@
 use joyce::{Access, Board, PowerOn, StepNumbers, BLOCK, PICTURE};
 use std::fmt;
 
-#[derive(Clone, PartialEq, Debug)]
+#[derive(Clone, PartialEq, Eq, Debug)]
 pub enum Call {
     PowerOn(PowerOn),
     Step {
@@ -61,7 +61,7 @@ impl Call {
 }
 
 /// How the RAM stands before the first call.
-#[derive(Clone, Copy, PartialEq, Debug)]
+#[derive(Clone, Copy, PartialEq, Eq, Debug)]
 pub enum Fill {
     Zero,
     Random,
@@ -76,7 +76,7 @@ pub enum Fill {
 }
 
 /// What a list of calls starts from.
-#[derive(Clone, Copy, PartialEq, Debug)]
+#[derive(Clone, Copy, PartialEq, Eq, Debug)]
 pub struct Setup {
     pub blocks: u8,
     pub fill: Fill,

@@ -8,7 +8,7 @@ use crate::model::{self, BoardRules};
 use joyce::{Board, Reply, BLOCK, LINE_BYTES, PICTURE};
 
 /// One side's record and lent memory.
-#[derive(Clone, PartialEq)]
+#[derive(Clone, PartialEq, Eq)]
 pub struct Side {
     pub board: Board,
     pub ram: Vec<u8>,
@@ -145,7 +145,7 @@ pub fn unequal(a: &[u8], b: &[u8]) -> Option<usize> {
 }
 
 /// What a call hands back, beside what it leaves in lent memory.
-#[derive(PartialEq, Debug)]
+#[derive(PartialEq, Eq, Debug)]
 enum Returned {
     Nothing,
     Reply(Reply),

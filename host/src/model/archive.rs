@@ -4,7 +4,7 @@ use joyce::archive::{Count, Entry, Fields, Found, Length};
 use joyce::{Refusal, LINE_BYTES, PICTURE};
 
 /// A frame: its bench, its number and its shown lines.
-#[derive(Clone, Copy, PartialEq, Debug)]
+#[derive(Clone, Copy, PartialEq, Eq, Debug)]
 pub struct Frame<'a> {
     pub bench: u32,
     pub number: u32,

@@ -13,7 +13,7 @@ pub struct Destination {
     target: Target,
 }
 
-#[derive(PartialEq)]
+#[derive(PartialEq, Eq)]
 enum Target {
     Standard,
     /// No link, and by its whole path if its folder is there. The file may not be there yet.

@@ -3,7 +3,7 @@
 use joyce::archive::Fields;
 use std::fmt;
 
-#[derive(Clone, Copy, PartialEq, Debug)]
+#[derive(Clone, Copy, PartialEq, Eq, Debug)]
 pub enum Call {
     Start {
         room: usize,

@@ -9,7 +9,7 @@ use joyce::archive::{entry_at, length, picture_at, Fields, Length, HEADER};
 use joyce::{LINE_BYTES, PICTURE};
 use std::fmt;
 
-#[derive(Clone, PartialEq, Debug)]
+#[derive(Clone, PartialEq, Eq, Debug)]
 pub enum Event {
     Make(Call),
     /// A byte of the archive is altered.

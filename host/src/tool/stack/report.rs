@@ -28,7 +28,8 @@ pub fn text(rows: &[Row], limit: usize) -> String {
     done.expect("writing to a string cannot fail");
     if !within(rows, limit) {
         let over: Vec<&str> = rows.iter().filter(|row| row.used > limit).map(|row| row.name).collect();
-        text.push_str(&format!("over what a call may use: {}\n", over.join(", ")));
+        let done = writeln!(text, "over what a call may use: {}", over.join(", "));
+        done.expect("writing to a string cannot fail");
     }
     text
 }
