@@ -93,7 +93,9 @@ class Joyce(unittest.TestCase):
         self.addCleanup(said.close)
         environment = {"PATH": str(self.bin), "HOME": str(self.folder), **more}
         command = [str(script or self.repository / "joyce"), *words]
-        return subprocess.Popen(command, env=environment, cwd=self.folder, stdout=subprocess.PIPE, stderr=said, text=True, start_new_session=True)
+        # A shell cannot trap what was ignored when it began, as an interrupt is in the background.
+        heeding = lambda: signal.signal(signal.SIGINT, signal.SIG_DFL)
+        return subprocess.Popen(command, env=environment, cwd=self.folder, stdout=subprocess.PIPE, stderr=said, text=True, start_new_session=True, preexec_fn=heeding)
 
     def joyce(self, *words, **more):
         """Status, what was written, what was said, and which commands were called."""
