@@ -10,6 +10,7 @@ import unittest
 from pathlib import Path
 
 ROOT = Path(__file__).resolve().parent.parent
+ENDING = (signal.SIGINT, signal.SIGTERM, signal.SIGHUP)
 SYSTEM = "awk basename cat chmod cp cut date df dirname find flock id install ls mkdir mktemp mv nproc readlink rm sed setsid sh sleep sort touch".split()
 TEXTS = {"help": "all commands\n", "version": "joyce 7.8.9 (C interface 1)\n", "demo": "the demo\n", "install": "installing\n", "joyce.1": ".TH JOYCE 1\n"}
 
@@ -49,6 +50,12 @@ def needed(name, below):
             found.add(crate)
             todo += below[crate].split()
     return found
+
+
+def heed():
+    """A shell cannot trap what was ignored when it began, as interrupts are in the background and hang-ups under nohup."""
+    for number in ENDING:
+        signal.signal(number, signal.SIG_DFL)
 
 
 class Joyce(unittest.TestCase):
@@ -93,9 +100,7 @@ class Joyce(unittest.TestCase):
         self.addCleanup(said.close)
         environment = {"PATH": str(self.bin), "HOME": str(self.folder), **more}
         command = [str(script or self.repository / "joyce"), *words]
-        # A shell cannot trap what was ignored when it began, as an interrupt is in the background.
-        heeding = lambda: signal.signal(signal.SIGINT, signal.SIG_DFL)
-        return subprocess.Popen(command, env=environment, cwd=self.folder, stdout=subprocess.PIPE, stderr=said, text=True, start_new_session=True, preexec_fn=heeding)
+        return subprocess.Popen(command, env=environment, cwd=self.folder, stdout=subprocess.PIPE, stderr=said, text=True, start_new_session=True, preexec_fn=heed)
 
     def joyce(self, *words, **more):
         """Status, what was written, what was said, and which commands were called."""
@@ -210,7 +215,7 @@ class Joyce(unittest.TestCase):
         for broken in ("rt", "cargo"):
             self.command("rt", sleeper if broken == "rt" else RT)
             self.command("cargo", sleeper)
-            for number in (signal.SIGINT, signal.SIGTERM, signal.SIGHUP):
+            for number in ENDING:
                 (self.folder / "calls").write_text("")
                 running = self.start("demo")
                 while broken + " " not in (self.folder / "calls").read_text():
