@@ -30,7 +30,7 @@ chmod 755 target/release/joyce
 # What is installed is there afterwards; what was said before it ran is kept.
 APT = NOTE + """
 cp "$(dirname "$0")/../said" "$(dirname "$0")/../said_before"
-[ "$1" = update ] || for name in cargo cc; do cp "$(dirname "$0")/../later/$name" "$(dirname "$0")"; done
+[ "$3" = update ] || for name in cargo cc; do cp "$(dirname "$0")/../later/$name" "$(dirname "$0")"; done
 """
 # Rust's crate is on this machine or not; in the tests it is as they say.
 FIND = """#!/bin/sh
@@ -152,7 +152,8 @@ class Joyce(unittest.TestCase):
         status, out, said, calls = self.joyce("demo", "-o", "x")
         self.assertEqual((status, out), (0, "tool: demo -o x\n"), said)
         self.assertIn("installing Debian's packages, without recommended ones: cargo gcc libc6-dev\n", (self.folder / "said_before").read_text())
-        self.assertEqual(calls[:2], ["apt-get update", "apt-get install -y --no-install-recommends cargo gcc libc6-dev"])
+        retrying = "apt-get -o Acquire::Retries=3 "
+        self.assertEqual(calls[:2], [retrying + "update", retrying + "install -y --no-install-recommends cargo gcc libc6-dev"])
 
     def test_building_shows_progress(self):
         lines = (re.sub("#.*", "", line) for line in (ROOT / "crates.txt").read_text().split("\n"))

@@ -153,44 +153,84 @@ fn powered_on(machine: &dyn Machine, rng: &mut Rng, ends: bool) -> (Reference, B
     (Reference { internal: 8, total: total as usize, shown, f, ram, dirty, run_on: RunOn::default() }, board)
 }
 
+/// A list of calls under way, with the reference beside it.
+struct Run<'m> {
+    machine: &'m dyn Machine,
+    rng: Rng,
+    reference: Reference,
+    board: Board,
+    ram: Vec<u8>,
+    picture: Vec<u8>,
+    /// The picture at the start; its unshown lines stay.
+    start: Vec<u8>,
+}
+
+impl Run<'_> {
+    fn refresh(&mut self, at: &str) {
+        let ram_len = self.ram.len() - self.rng.once_in(9) as usize;
+        let picture_len = PICTURE - self.rng.once_in(9) as usize;
+        let reply = self.machine.refresh(&mut self.board, &self.ram[..ram_len], &mut self.picture[..picture_len]);
+        if (ram_len, picture_len) == (self.ram.len(), PICTURE) {
+            let (count, lines) = self.reference.refresh();
+            assert_eq!((reply.refusal(), reply.value()), (0, count), "{at}");
+            assert_eq!(self.picture[..lines.len()], lines, "{at}");
+        } else {
+            assert_eq!((reply.refusal(), reply.value()), (2, 0), "{at}");
+        }
+    }
+
+    fn step(&mut self, at: &str) {
+        let step = StepNumbers::from(random_step(&mut self.rng, &self.reference));
+        let ram_len = self.ram.len() - self.rng.once_in(20) as usize;
+        let boot_len = self.rng.pick(&[0, 1, 700, 1_023, 1_024, 1_024, 1_025]);
+        let reply = self.machine.step(&mut self.board, step, &mut self.ram[..ram_len], &[7; 1_025][..boot_len]);
+        let refusal = self.reference.refusal(&step, ram_len, boot_len);
+        // A boot stream that has run out meets fetches only, and they change nothing here.
+        if !(step.kind == 1 && refusal == 0 && reply.refusal() == 4) {
+            assert_eq!(reply.refusal(), refusal, "{at}: {step:?}");
+        }
+        if refusal == 0 {
+            self.reference.step(&step);
+        }
+    }
+
+    /// Goes on with record and RAM as they were kept, and with another picture: it is drawn once.
+    fn resume(&mut self, at: &str) {
+        let kept = (self.board, self.ram.clone());
+        self.board = Board::default();
+        self.ram.fill(0);
+        (self.board, self.ram) = kept;
+        self.rng.fill(&mut self.picture);
+        self.start = self.picture.clone();
+        assert_eq!(self.machine.draw(&self.board, &self.ram, &mut self.picture).refusal(), 0, "{at}");
+    }
+
+    fn agrees(&self, at: &str) {
+        assert!(self.ram == self.reference.ram, "{at}: RAM");
+        let dirty: [bool; 256] = std::array::from_fn(|line| self.board.dirty.has(line as u8));
+        assert_eq!(dirty, self.reference.dirty, "{at}");
+        let unshown = self.reference.shown * 90;
+        assert!(self.picture[unshown..] == self.start[unshown..], "{at}: unshown lines");
+    }
+}
+
 fn run_list(machine: &dyn Machine, seed: u64, calls: usize) -> RunOn {
     let mut rng = Rng::new(seed);
-    let (mut reference, mut board) = powered_on(machine, &mut rng, seed % 2 == 1);
-    let (shown, mut ram) = (reference.shown, reference.ram.clone());
+    let (reference, board) = powered_on(machine, &mut rng, seed % 2 == 1);
+    let ram = reference.ram.clone();
     let mut picture = vec![0; PICTURE];
     rng.fill(&mut picture);
-    let start = picture.clone();
+    let mut run = Run { machine, rng, reference, board, ram, start: picture.clone(), picture };
     for call in 0..calls {
-        if rng.once_in(6) {
-            let (ram_len, picture_len) = (ram.len() - rng.once_in(9) as usize, PICTURE - rng.once_in(9) as usize);
-            let reply = machine.refresh(&mut board, &ram[..ram_len], &mut picture[..picture_len]);
-            if (ram_len, picture_len) == (ram.len(), PICTURE) {
-                let (count, lines) = reference.refresh();
-                assert_eq!((reply.refusal(), reply.value()), (0, count), "seed {seed}, call {call}");
-                assert_eq!(picture[..lines.len()], lines, "seed {seed}, call {call}");
-            } else {
-                assert_eq!((reply.refusal(), reply.value()), (2, 0), "seed {seed}, call {call}");
-            }
-        } else {
-            let step = StepNumbers::from(random_step(&mut rng, &reference));
-            let ram_len = ram.len() - rng.once_in(20) as usize;
-            let boot_len = rng.pick(&[0, 1, 700, 1_023, 1_024, 1_024, 1_025]);
-            let reply = machine.step(&mut board, step, &mut ram[..ram_len], &[7; 1_025][..boot_len]);
-            let refusal = reference.refusal(&step, ram_len, boot_len);
-            // A boot stream that has run out meets fetches only, and they change nothing here.
-            if !(step.kind == 1 && refusal == 0 && reply.refusal() == 4) {
-                assert_eq!(reply.refusal(), refusal, "seed {seed}, call {call}: {step:?}");
-            }
-            if refusal == 0 {
-                reference.step(&step);
-            }
+        let at = format!("seed {seed}, call {call}");
+        match run.rng.below(30) {
+            0..=4 => run.refresh(&at),
+            5 => run.resume(&at),
+            _ => run.step(&at),
         }
-        assert!(ram == reference.ram, "seed {seed}, call {call}: RAM");
-        let dirty: [bool; 256] = std::array::from_fn(|line| board.dirty.has(line as u8));
-        assert_eq!(dirty, reference.dirty, "seed {seed}, call {call}");
-        assert!(picture[shown * 90..] == start[shown * 90..], "seed {seed}, call {call}: unshown lines");
+        run.agrees(&at);
     }
-    reference.run_on
+    run.reference.run_on
 }
 
 /// Runs lists; stores past the ends of blocks must have been among them.

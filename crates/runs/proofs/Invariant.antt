@@ -25,10 +25,7 @@ use Rattle.step_rules.proofs.After.{state-still, answer-refusal, after-step}
 use Rattle.step_rules.proofs.Good.{step-good, step-words, step-rate}
 use Rattle.runs.specs.Reference.{Reference, viewIn, knownRefusal, after}
 use Rattle.runs.specs.Reference as reference
-use Rattle.runs.specs.Events.{step, Machine, next, Agrees, Returns}
-
-abbrev pub mirror : Board → List ℕ → Reference
-mirror b ram = record { sizes = b .sizes; rate = b .rate; paging = b .paging; video = b .video; ram = ram; dirty = member (b .dirty) }
+use Rattle.runs.specs.Events.{step, Machine, next, Agrees, Returns, mirror}
 
 -- No reference in it: that is the mirror.
 pub record Invariant (alone : Bool) (first : List ℕ) (m : Machine) : Type 0 where

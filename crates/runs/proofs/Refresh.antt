@@ -21,8 +21,8 @@ use Rattle.picture.proofs.Answers.{accepted, after-refresh}
 use Rattle.picture.proofs.Painting.{painted-length, painted-at, painted-byte}
 use Rattle.runs.specs.Reference.{refreshRefusal}
 use Rattle.runs.specs.Reference as reference
-use Rattle.runs.specs.Events.{refresh, Machine, next, RefreshReturns}
-use Rattle.runs.proofs.Invariant.{mirror, Invariant}
+use Rattle.runs.specs.Events.{refresh, Machine, next, RefreshReturns, mirror}
+use Rattle.runs.proofs.Invariant.{Invariant}
 
 -- ---- the record that a refresh returns
 

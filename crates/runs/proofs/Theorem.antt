@@ -8,20 +8,23 @@ use mathlib.Core.Bool.{Bool, true, false, cond, true≢false}
 use mathlib.Core.List.{List, [], _∷_}
 use lib.ListN.{getD, length}
 use lib.Seq.{ext-getD}
-use Rattle.lineset.specs.Lines.{member, isShown, shownSet}
-use Rattle.lineset.proofs.Shown.{is-shown, shown-line, unshown-line, shown-member}
+use Rattle.lineset.specs.Lines.{member, isShown, shownCount, shownSet}
+use Rattle.lineset.proofs.Sets.{Words}
+use Rattle.lineset.proofs.Shown.{is-shown, shown-at-most, shown-line, unshown-line, shown-member}
 use Rattle.paging.specs.declared.Sizes.{Sizes}
 use Rattle.paging.specs.declared.Paging.{Paging}
+use Rattle.scanline.specs.Drawing.{drawn}
 use Rattle.board.specs.declared.record.Board.{Board}
 use Rattle.board.specs.Record.{viewOf}
 use Rattle.board_power.specs.Power.{freshBoard, powerOnRefusal, poweredOn}
 use Rattle.board_power.proofs.Power.{power-on-board, power-on-good, power-on-words}
-use Rattle.picture.specs.Pictures.{painted, drawPicture, refreshPicture}
-use Rattle.picture.proofs.Painting.{cell, painted-length, painted-at}
+use Rattle.picture.specs.Pictures.{painted, pictureRefusal, drawAnswer, drawPicture, refreshPicture}
+use Rattle.picture.proofs.Answers.{Accepted, accepted}
+use Rattle.picture.proofs.Painting.{cell, painted-length, painted-at, painted-byte}
 use Rattle.runs.specs.Reference.{Reference, refreshRefusal}
 use Rattle.runs.specs.Reference as reference
-use Rattle.runs.specs.Events.{Event, step, refresh, stepOnOther, refreshOnOther, overwritten, Machine, next, fed, undisturbed, Lent, Returns, Claims, WholeRuns, Redrawn, Pictures, DrawnWhole}
-use Rattle.runs.proofs.Invariant.{mirror, Invariant, agrees, mirror-step, step-kept, step-returns}
+use Rattle.runs.specs.Events.{Event, step, refresh, stepOnOther, refreshOnOther, overwritten, Machine, next, fed, undisturbed, Lent, Returns, Claims, WholeRuns, mirror, resumed, ResumedRuns, Redrawn, Pictures, DrawnWhole}
+use Rattle.runs.proofs.Invariant.{Invariant, agrees, mirror-step, step-kept, step-returns}
 use Rattle.runs.proofs.OtherMemory.{step-other, step-other-returns, refresh-other, refresh-other-returns}
 use Rattle.runs.proofs.Refresh.{refresh-refusal, mirror-refresh, refresh-kept, all-shown, outside-first, refresh-returns}
 
@@ -111,6 +114,37 @@ whole-runs sizes rate paging table top ram picture events = (
       (claims events true picture (record { board = freshBoard sizes rate paging table top; ram = ram; picture = picture })
       (at-first sizes rate paging table top ram picture e))),
 )
+
+-- ---- going on with a record that was kept: a draw has made every shown line as it is drawn
+
+module _ (b : Board) (ram picture : List ℕ) (w : Words (b .dirty)) (e : pictureRefusal b (length ram) (length picture) ≡ 0) where
+  ready : Accepted b (length ram) (length picture)
+  ready = accepted b (length ram) (length picture) _ refl e
+
+  drawn-over : drawPicture b ram picture ≡ painted (isShown (b .rate)) (viewOf b ram) picture
+  unfolding drawPicture
+  drawn-over = rw e
+
+  shown-drawn : (L : ℕ) → L < shownCount (b .rate) → (i : ℕ) → i < 90 → getD (drawPicture b ram picture) (90 * L + i) 0 ≡ drawn (viewOf b ram) L i
+  shown-drawn L l i k =
+      let most = shown-at-most (b .rate) in
+      let z = ready .size in
+      ap (λ (p : List ℕ). getD p (90 * L + i) 0) drawn-over
+      ∙ painted-byte (viewOf b ram) picture (isShown (b .rate)) L i k (omega arith)
+      ∙ rw (is-shown (b .rate) L l)
+
+  at-draw : Invariant true (resumed b ram picture .picture) (resumed b ram picture)
+  at-draw = record {
+    good-board = ready .isGood;
+    words = w;
+    size = λ u. refl;
+    outside = λ u k l. refl;
+    fresh = λ u z L l d i k. shown-drawn L l i k;
+  }
+
+pub resumed-runs : ResumedRuns
+unfolding drawAnswer
+resumed-runs b ram picture events w e = claims events true (resumed b ram picture .picture) (resumed b ram picture) (at-draw b ram picture w e)
 
 -- ---- the picture whole
 

@@ -7,6 +7,7 @@ use mathlib.Core.List.{List, [], _∷_}
 use lib.Dec.{eqb}
 use lib.ListN.{getD, length}
 use Rattle.lineset.specs.Lines.{member, countOf, shownCount}
+use Rattle.lineset.proofs.Sets.{Words}
 use Rattle.paging.specs.declared.Sizes.{Sizes}
 use Rattle.paging.specs.declared.Paging.{Paging}
 use Rattle.paging.specs.Maps.{ramFits}
@@ -16,7 +17,7 @@ use Rattle.board.specs.Record.{firstRefusal}
 use Rattle.board_power.specs.Power.{powerOnRefusal, poweredOn}
 use Rattle.step_rules.specs.declared.Step.{Step}
 use Rattle.step_rules.specs.Answers.{stateRefusal, stepAnswer, stepRam}
-use Rattle.picture.specs.Pictures.{painted, drawPicture, refreshAnswer, refreshPicture}
+use Rattle.picture.specs.Pictures.{painted, drawAnswer, drawPicture, refreshAnswer, refreshPicture}
 use Rattle.runs.specs.Reference.{Reference, viewIn, knownRefusal, refreshRefusal}
 use Rattle.runs.specs.Reference as reference
 
@@ -128,6 +129,21 @@ WholeRuns =
     → (poweredOn sizes rate paging table top .refusal ≡ powerOnRefusal sizes rate)
     × (powerOnRefusal sizes rate ≡ 0
     → Claims true picture (started sizes rate paging table top ram picture) (reference.start sizes rate paging table top ram) events)
+
+-- A record that was kept with its RAM may be gone on with at any time, by itself or as a copy, once a draw of it is accepted: the same claim
+-- holds from there on, read against a reference that has what the record has.
+abbrev pub mirror : Board → List ℕ → Reference
+mirror b ram = record { sizes = b .sizes; rate = b .rate; paging = b .paging; video = b .video; ram = ram; dirty = member (b .dirty) }
+
+abbrev pub resumed : Board → List ℕ → List ℕ → Machine
+resumed b ram picture = record { board = b; ram = ram; picture = drawPicture b ram picture }
+
+abbrev pub ResumedRuns : Type 0
+ResumedRuns =
+    (b : Board) (ram picture : List ℕ) (events : List Event)
+    → Words (b .dirty)
+    → drawAnswer b ram picture .refusal ≡ 0
+    → Claims true (resumed b ram picture .picture) (resumed b ram picture) (mirror b ram) events
 
 -- What a doubter asks for: after each accepted refresh of a run that nobody else disturbed, the picture is, whole, what a full draw of that
 -- moment would make of the picture at the start.
