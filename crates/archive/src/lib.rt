@@ -1,4 +1,5 @@
 // An archive (document 02: a book of frames): whether it is sound, its count, its entries, and where a bench and number stand.
+#![tactic(auto)]
 ghost use Rattle.std.specs.Prelude.{◌≡◌};
 ghost use Rattle.archive.specs.Sound.{sound};
 ghost use Rattle.archive.specs.Answers.{no_entry, entry_at, good_fields, count_answer, entry_answer, find_answer};
@@ -12,19 +13,19 @@ pub use numbers::{Entry, Header};
 pub use search::Index;
 
 // The number of frames, and the refusal number.
-#[derive(Drop)]
+#[derive(Clone, Copy)]
 pub struct Counted {
     pub count: u32,
     pub refusal: u8,
 }
 
-#[derive(Drop)]
+#[derive(Clone, Copy)]
 pub struct EntryRead {
     pub entry: Entry,
     pub refusal: u8,
 }
 
-#[derive(Drop)]
+#[derive(Clone, Copy)]
 pub struct Found {
     pub index: Index,
     pub refusal: u8,

@@ -3,7 +3,7 @@ ghost use Rattle.std.specs.Prelude.{◌+◌, ◌*◌, ◌≤◌, length, ◌≡�
 ghost use Rattle.byte_rows.specs.Numbers.{at4};
 ghost use Rattle.archive.specs.Sound.{header_of, entry_of};
 
-#[derive(Drop)]
+#[derive(Clone, Copy)]
 pub struct Header {
     pub form: u32,
     pub count: u32,
@@ -12,7 +12,7 @@ pub struct Header {
     pub end: u32,
 }
 
-#[derive(Drop)]
+#[derive(Clone, Copy)]
 pub struct Entry {
     pub bench: u32,
     pub number: u32,

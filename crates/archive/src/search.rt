@@ -6,7 +6,7 @@ ghost use Rattle.archive.specs.Answers.{first_of};
 use crate::numbers::read_entry;
 
 // The index of an entry, or there is none.
-#[derive(Drop)]
+#[derive(Clone, Copy)]
 pub enum Index {
     At(u32),
     Nothing,

@@ -1,4 +1,5 @@
 // Archives written in lent room: the archive of no frames, and the next one with a frame more.
+#![tactic(auto)]
 ghost use Rattle.std.specs.Prelude.{◌-◌, ◌/◌, ◌≤◌, ◌≡◌, length};
 ghost use Rattle.archive.specs.Sound.{count_of};
 ghost use Rattle.archive_add.specs.Adding.{length_or, start_refusal, start_room, next_length, room_for, add_refusal, add_room};
@@ -9,7 +10,7 @@ mod parts;
 use archive::Index;
 
 // The length of the archive that was written, and the refusal number.
-#[derive(Drop)]
+#[derive(Clone, Copy)]
 pub struct Written {
     pub length: usize,
     pub refusal: u8,

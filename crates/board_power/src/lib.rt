@@ -1,4 +1,5 @@
 // Power-on.
+#![tactic(auto)]
 ghost use Rattle.std.specs.Prelude.{◌≡◌};
 ghost use Rattle.board_power.specs.Power.{zero_board, fresh_board, powered_on};
 
@@ -8,7 +9,7 @@ use paging::{Paging, Sizes};
 use scanline::Video;
 
 // The record, or one of zeros and refusal 6.
-#[derive(Drop)]
+#[derive(Clone, Copy)]
 pub struct PowerOn {
     pub board: Board,
     pub refusal: u8,

@@ -1,4 +1,5 @@
 // Bytes in lent memory.
+#![tactic(auto)]
 ghost use Rattle.std.specs.Prelude.{◌+◌, ◌≤◌, leb, length, ◌≡◌};
 ghost use Rattle.byte_rows.specs.Rows.{put, copied};
 

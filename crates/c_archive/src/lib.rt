@@ -1,4 +1,5 @@
 // By value, what the C interface gives for archives: packed numbers.
+#![tactic(auto)]
 ghost use Rattle.std.specs.Prelude.{◌≤◌, ◌≡◌, length};
 ghost use Rattle.archive.specs.Sound.{count_of};
 ghost use Rattle.archive.specs.Answers.{count_answer, entry_answer, find_answer};

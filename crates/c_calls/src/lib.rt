@@ -1,4 +1,5 @@
 // By value, what the C interface takes and gives: plain numbers in, the record and a packed number out.
+#![tactic(auto)]
 pub mod pictures;
 pub mod records;
 

@@ -10,7 +10,7 @@ use c_numbers::reply;
 use paging::{Paging, Sizes};
 
 // The new record, and the reply.
-#[derive(Drop)]
+#[derive(Clone, Copy)]
 pub struct Returned {
     pub board: Board,
     pub word: u64,

@@ -1,15 +1,16 @@
 // Sets of scan lines: 256 line numbers as four 64-bit words, line 0 in the lowest bit of the first.
+#![tactic(auto)]
 ghost use Rattle.std.specs.Prelude.{◌≡◌, false, ◌&&◌, ◌||◌, ℕ, ◌-◌};
 ghost use Rattle.lineset.specs.Lines.{member, set_of, count_of, first_of, shown_count, is_shown, shown_set};
 
 #[repr(C)]
-#[derive(Drop)]
+#[derive(Clone, Copy)]
 pub struct LineSet {
     pub words: [u64; 4],
 }
 
 // The next line that a search finds.
-#[derive(Drop)]
+#[derive(Clone, Copy)]
 pub enum NextLine {
     At(u16),
     Nothing,

@@ -1,4 +1,5 @@
 // Memory sizes, map bytes and the lock: which 16K block and place an access reaches, and where that lies in the RAM.
+#![tactic(auto)]
 ghost use Rattle.std.specs.Prelude.{◌≡◌, get_or};
 ghost use Rattle.paging.specs.Maps.{ram_fits, map_read, map_write};
 ghost use Rattle.paging.specs.Maps.{allowed, expansion};
@@ -7,7 +8,7 @@ ghost use Rattle.paging.specs.Memory.{locked};
 
 // Memory sizes in 16K blocks: internal, and internal with expansion.
 #[repr(C)]
-#[derive(Drop)]
+#[derive(Clone, Copy)]
 pub struct Sizes {
     pub internal: u8,
     pub total: u8,
@@ -15,14 +16,14 @@ pub struct Sizes {
 
 // The map byte of each bank (F0 to F3) and the lock byte (F4).
 #[repr(C)]
-#[derive(Drop)]
+#[derive(Clone, Copy)]
 pub struct Paging {
     pub maps: [u8; 4],
     pub lock: u8,
 }
 
 // Where an access lands: the block that a read reaches, the one that a write reaches, and the place in the block.
-#[derive(Drop)]
+#[derive(Clone, Copy)]
 pub struct Reach {
     pub read: u8,
     pub write: u8,

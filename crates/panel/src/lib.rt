@@ -1,4 +1,5 @@
 // What the 1,440-wide panel needs: a line with each pixel twice.
+#![tactic(auto)]
 mod doubles;
 mod doubling;
 

@@ -1,4 +1,5 @@
 // The picture: drawing and refreshing it, and the next dirty line.
+#![tactic(auto)]
 ghost use Rattle.std.specs.Prelude.{◌≡◌};
 ghost use Rattle.picture.specs.Pictures.{picture_refusal, is_floating, draw_answer, draw_picture, refresh_answer, refresh_picture, next_answer};
 
@@ -9,14 +10,14 @@ use lineset::{LineSet, NextLine};
 use paint::{paint_first, paint_set};
 
 // Whether the video floats, and the refusal number or 0.
-#[derive(Drop)]
+#[derive(Clone, Copy)]
 pub struct Drawn {
     pub floating: bool,
     pub refusal: u8,
 }
 
 // The record with no line dirty, how many lines were drawn, whether the video floats, and the refusal number or 0.
-#[derive(Drop)]
+#[derive(Clone, Copy)]
 pub struct Refreshed {
     pub board: Board,
     pub count: u16,
@@ -25,7 +26,7 @@ pub struct Refreshed {
 }
 
 // The next dirty line, and the refusal number or 0.
-#[derive(Drop)]
+#[derive(Clone, Copy)]
 pub struct NextDirty {
     pub line: NextLine,
     pub refusal: u8,

@@ -1,16 +1,17 @@
 // The first place where two pictures differ.
+#![tactic(auto)]
 ghost use Rattle.std.specs.Prelude.{◌≡◌, true, ℕ, ◌+◌, ◌≤◌, ◌<◌, length};
 ghost use Rattle.panel.specs.Widen.{pixel_of};
 ghost use Rattle.picture_compare.specs.Differences.{AlikeFrom, first_difference, difference_answer};
 
 // A line and a pixel of it, 0 to 719; or the pictures are the same.
-#[derive(Drop)]
+#[derive(Clone, Copy)]
 pub enum Position {
     Pixel(u8, u16),
     Same,
 }
 
-#[derive(Drop)]
+#[derive(Clone, Copy)]
 pub struct Difference {
     pub position: Position,
     pub refusal: u8,

@@ -1,4 +1,5 @@
 // The reach list: a line of text for each group of 9 bytes.
+#![tactic(auto)]
 ghost use Rattle.std.specs.Prelude.{◌+◌, ◌*◌, ◌≤◌, ◌≡◌, ◌++◌, length, take, drop};
 ghost use Rattle.std.proofs.Math.Seq.{paste};
 ghost use Rattle.facts.specs.Lists.{in_room};
@@ -9,14 +10,14 @@ use paging::{Paging, Sizes};
 
 // How many bytes of `out` the text takes, and 0; or 0 bytes and the refusal number.
 #[repr(C)]
-#[derive(Drop)]
+#[derive(Clone, Copy)]
 pub struct Listed {
     pub length: usize,
     pub refusal: u8,
 }
 
 // A line: the first `used` of `bytes`.
-#[derive(Drop)]
+#[derive(Clone, Copy)]
 struct Line {
     bytes: [u8; 20],
     used: usize,

@@ -1,4 +1,5 @@
 // The reach list, run on no input.
+#![tactic(auto)]
 fn main() {
     reach_io::run();
 }

@@ -1,4 +1,5 @@
 // The reach list as a program: groups of 9 bytes from standard input, lines of text to standard output.
+#![tactic(auto)]
 ghost use Rattle.std.specs.Prelude.{◌≡◌};
 
 use libc::{STDIN_FILENO, STDOUT_FILENO};

@@ -1,11 +1,12 @@
 // Scan lines: the pointer table and its words, read and made; a line's pixels, the drawn byte, and the video registers.
+#![tactic(auto)]
 ghost use Rattle.std.specs.Prelude.{◌≡◌, ◌+◌, ◌*◌};
 ghost use Rattle.scanline.specs.Pointers.{table_index, entry_of, entry_index, pointer_word, pointer_of, made_pointer};
 ghost use Rattle.scanline.specs.Drawing.{pixel_index, drawn_byte, video_differs};
 
 // F5, F6 and F7.
 #[repr(C)]
-#[derive(Drop)]
+#[derive(Clone, Copy)]
 pub struct Video {
     pub table: u8,
     pub top: u8,
@@ -13,14 +14,14 @@ pub struct Video {
 }
 
 // Where a scan line's pixels start: a block of standard RAM, 0 to 7, and a place in it.
-#[derive(Drop)]
+#[derive(Clone, Copy)]
 pub struct Pointer {
     pub block: u8,
     pub start: u16,
 }
 
 // A pointer word made, or 0 and the refusal number.
-#[derive(Drop)]
+#[derive(Clone, Copy)]
 pub struct MadePointer {
     pub word: u16,
     pub refusal: u8,

@@ -1,4 +1,5 @@
 // The lines that a store touches. The table's entries are tested in four quarters, so that 64 bytes of stack serve for all 256.
+#![tactic(auto)]
 ghost use Rattle.std.specs.Prelude.{◌≡◌, ℕ, ◌+◌, ◌*◌, ◌≤◌, ◌<◌, Bool, length, get_or};
 ghost use mir.Val.{bool_byte};
 ghost use Rattle.lineset.specs.Lines.{set_of, packed};

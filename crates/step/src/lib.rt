@@ -1,5 +1,6 @@
 // A step of any kind: it takes the record and hands the next one on in its answer, and is lent RAM and boot stream. Both are
 // checked first, and once.
+#![tactic(auto)]
 ghost use Rattle.std.specs.Prelude.{◌≡◌, ◌≤◌, length};
 ghost use Rattle.step_rules.specs.Answers.{lent_refusal, step_effect, effect_ram, step_answer, step_ram};
 ghost use Rattle.step_rules.specs.Decoding.{decoded, numbers_answer, numbers_ram};

@@ -7,6 +7,7 @@
 // held; 8 asks for the count while they are turned over. 9 asks for the count, 10 for entry a, 11 for entry a as it stands, 12 where
 // bench a and number b stand; 13 reads entry a into the picture; 14 asks whether bench a and shown b are in range; 15 prints the
 // bytes from a up to b. Any other does nothing.
+#![tactic(auto)]
 mod bytes;
 mod calls;
 mod print;
@@ -14,7 +15,7 @@ mod print;
 use crate::bytes::{change, fill, least};
 use libc::STDIN_FILENO;
 
-#[derive(Drop)]
+#[derive(Clone, Copy)]
 struct Group {
     read: bool,
     op: u32,
@@ -24,7 +25,7 @@ struct Group {
 }
 
 // How many bytes the archive held, the room and the picture have, and the archive that was written last.
-#[derive(Drop)]
+#[derive(Clone, Copy)]
 struct Lengths {
     held: usize,
     room: usize,

@@ -1,5 +1,6 @@
 // Runs the bench cases of document 01 through the public functions and prints what they give: numbers in hex, and of a roll
 // whether it is as said. That the rules give what is said is shown in crate `bench_rules`.
+#![tactic(auto)]
 use board::Board;
 use paging::{Paging, Sizes};
 use scanline::Pointer;

@@ -5,12 +5,13 @@
 // rate v, with the RAM's pattern; 1 a scan; 2 v to port a; 3 v stored at the index; 4 v stored from the keyboard at offset a; 5 prints
 // the record; 6 prints the byte v; 7 a scan, v to F6 and v stored at the index, in one expression; 8 leaves no line dirty. Any other
 // does nothing.
+#![tactic(auto)]
 mod chain;
 mod memory;
 
 use libc::STDIN_FILENO;
 
-#[derive(Drop)]
+#[derive(Clone, Copy)]
 struct Group {
     read: bool,
     op: u8,

@@ -1,4 +1,5 @@
 // Prints what the functions below the steps answer. The file stdout was made from documents 01 and 02.
+#![tactic(auto)]
 mod memory;
 mod sets;
 mod wide;

@@ -5,6 +5,7 @@
 // The list is groups of four bytes, op a b c. Ops 1 to 9 are a step of that kind, its number a + 256 * b and value c; 10 a
 // power-on at rate a; 11 a refresh; 12 a step of kind a, number b and value c on a RAM one byte short; 13 a refresh of
 // a picture one byte short; 20 the end of a scene; 21 a byte to print; 22 line a of the picture to print.
+#![tactic(auto)]
 ghost use Rattle.std.specs.Prelude.{◌≡◌, ◌≤◌};
 
 mod bytes;
@@ -100,7 +101,7 @@ fn take(
     }
 }
 
-#[derive(Drop)]
+#[derive(Clone, Copy)]
 struct Group {
     read: bool,
     op: u8,

@@ -8,7 +8,7 @@ use step::Step;
 
 // `wrong`: refreshes that answered wrongly; `differed`: pictures unlike a full draw; `spoilt`: refused calls that changed
 // something.
-#[derive(Drop)]
+#[derive(Clone, Copy)]
 pub(crate) struct Run {
     pub board: Board,
     pub steps: u64,

@@ -1,4 +1,5 @@
 // A long list of steps and refreshes, scene after scene.
+#![tactic(auto)]
 fn main() {
     test_list::run();
 }

@@ -1,5 +1,6 @@
 // Prints texts, numbers, records and answers to standard output: addresses, bytes and registers in hex, all else in decimal.
 // No clause can say what is written: these return nothing, and end.
+#![tactic(auto)]
 ghost use Rattle.std.specs.Prelude.{◌≡◌};
 
 use board::{Board, Boot, Clock, Disc};

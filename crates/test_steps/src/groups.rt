@@ -8,7 +8,7 @@ use step::Answer;
 use test_print::{answer, byte, dirty_lines, flag, record, small, text};
 
 // The record, and the lengths of RAM and boot stream that steps are lent. The stream is the list's own first bytes.
-#[derive(Drop)]
+#[derive(Clone, Copy)]
 pub struct State {
     pub board: Board,
     pub ram: usize,

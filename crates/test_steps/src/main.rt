@@ -1,5 +1,6 @@
 // Runs a list of groups from standard input on one record and one RAM, and prints their answers. The files stdin and
 // stdout were both made from documents 01 and 02.
+#![tactic(auto)]
 mod groups;
 mod record;
 
