@@ -6,8 +6,7 @@ ghost use Rattle.archive.specs.Sound.{count_of};
 ghost use Rattle.archive.specs.Answers.{count_answer, entry_answer, find_answer};
 ghost use Rattle.archive_read.specs.Reading.{read_answer, read_picture};
 ghost use Rattle.archive_add.specs.Adding.{length_or, start_refusal, start_room, next_length, add_refusal, add_room};
-ghost use Rattle.c_archive.specs.Replies.{written_reply, count_reply, shown_code, entry_reply, find_reply};
-ghost use Rattle.c_archive.specs.Replies.{reply};
+ghost use Rattle.c_archive.specs.Replies.{reply, written_reply, count_reply, shown_code, entry_reply, find_reply};
 
 use archive::{EntryRead, Index};
 use archive_add::Written;
