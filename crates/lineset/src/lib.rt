@@ -1,5 +1,6 @@
 // Sets of scan lines: 256 line numbers as four 64-bit words, line 0 in the lowest bit of the first.
 #![tactic(auto)]
+
 ghost use Rattle.std.specs.Prelude.{◌≡◌, false, ◌&&◌, ◌||◌, ℕ, ◌-◌};
 ghost use Rattle.lineset.specs.Lines.{member, set_of, count_of, first_of, shown_count, is_shown, shown_set};
 
