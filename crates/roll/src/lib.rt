@@ -1,5 +1,6 @@
 // How far the picture rolls when the top line changes.
 #![tactic(auto)]
+
 ghost use Rattle.std.specs.Prelude.{◌≡◌};
 ghost use Rattle.roll.specs.Roll.{roll_of};
 
