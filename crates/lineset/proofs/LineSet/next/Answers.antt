@@ -5,9 +5,6 @@ use Rattle.lineset.proofs.Sets.{Words, words_of}
 use Rattle.lineset.proofs.Operations.{first_empty, first_at, first_over, first_word, first_next}
 use Rattle.lineset.proofs.LineSet.next.Goals as goal
 
-pub returns-then-n-gt255 : goal.returns-then-n-gt255
-returns-then-n-gt255 c = sym (first_empty (member c.args.self) c.args.n (omega arith))
-
 pub returns-then-w-ne0 : goal.returns-then-w-ne0
 returns-then-w-ne0 c =
     let ws : Words c.args.self = words_of (search rules) (λ j. search rules) in
