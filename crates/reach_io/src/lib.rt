@@ -1,35 +1,62 @@
 // The reach list as a program: groups of 9 bytes from standard input, lines of text to standard output.
 #![tactic(auto)]
-ghost use Rattle.std.specs.Prelude.{◌≡◌};
 
-use libc::{STDIN_FILENO, STDOUT_FILENO};
+ghost use Rattle.std.specs.Prelude.{◌≡◌, ◌≤◌, IfOk, length};
+
+use std::io;
+use std::io::Read;
+
+// Reads until `buf` is full or the input ends, and gives how many bytes came.
+fn read_full(from: &mut impl Read, buf: &mut [u8]) -> io::Result<usize>
+    ensures { IfOk result (λ n. n ≤ length buf.new) }
+{
+    let mut done = 0;
+    while done < buf.len() {
+        let got = from.read(&mut buf[done..])?;
+        if got == 0 {
+            return Ok(done);
+        }
+        done += got;
+    }
+    Ok(done)
+}
 
 // Lists one chunk, and answers whether another may follow. A chunk that `input` does not fill is the last.
-fn list_some(input: &mut [u8], out: &mut [u8]) -> bool {
-    let got = io::read_full(STDIN_FILENO, input);
+fn list_some(
+    rt: &impl Print,
+    from: &mut impl Read,
+    input: &mut [u8],
+    out: &mut [u8],
+) -> io::Result<bool> {
+    let got = read_full(from, input)?;
     let listed = reach::list(&input[..got], out);
     let n = listed.length;
-    io::write_all(STDOUT_FILENO, &out[..n]) && got == input.len()
+    rt.write_all(&out[..n])?;
+    Ok(got == input.len())
 }
 
 // A proved loop has to end, and nothing says that the input does. So the loop counts its turns down,
 // from a number that no run uses up.
-fn list_all(input: &mut [u8], out: &mut [u8]) {
+fn list_all(
+    rt: &impl Print,
+    from: &mut impl Read,
+    input: &mut [u8],
+    out: &mut [u8],
+) -> io::Result<()> {
     let mut turns = u64::MAX;
-    while turns > 0 && list_some(input, out) {
+    while turns > 0 && list_some(rt, from, input, out)? {
         turns -= 1;
     }
+    Ok(())
 }
 
 // 400 groups at a time, so that a chunk ends where a group does, and the 20 bytes that each may take. No clause can say what is read
 // or written: what each chunk gives is `reach::list`, and that chunks may be cut so is its law `chunked`.
-pub fn run()
-    ensures { result ≡ tt }
+pub fn run(rt: &(impl Print + Input)) -> io::Result<()>
+    ensures { IfOk result (λ x. x ≡ tt) }
 {
-    if !io::write_all(STDOUT_FILENO, b"REACH\n") {
-        return;
-    }
+    rt.write_all(b"REACH\n")?;
     let mut input = [0u8; 3600];
     let mut out = [0u8; 8000];
-    list_all(&mut input, &mut out);
+    list_all(rt, &mut rt.reader(), &mut input, &mut out)
 }

@@ -1,5 +1,8 @@
 // The reach list, run on the sample of document 01.
 #![tactic(auto)]
-fn main() {
-    reach_io::run();
+
+use std::io;
+
+fn main(rt: HostRuntime) -> io::Result<()> {
+    reach_io::run(&rt)
 }

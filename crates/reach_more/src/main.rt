@@ -1,5 +1,8 @@
 // The reach list, run on more groups than one chunk holds: bad sizes, every bank, lock bit and kind of map, and a short last group.
 #![tactic(auto)]
-fn main() {
-    reach_io::run();
+
+use std::io;
+
+fn main(rt: HostRuntime) -> io::Result<()> {
+    reach_io::run(&rt)
 }

@@ -8,12 +8,14 @@
 // bench a and number b stand; 13 reads entry a into the picture; 14 asks whether bench a and shown b are in range; 15 prints the
 // bytes from a up to b. Any other does nothing.
 #![tactic(auto)]
+
 mod bytes;
 mod calls;
 mod print;
 
 use crate::bytes::{change, fill, least};
-use libc::STDIN_FILENO;
+use std::io;
+use std::io::{ErrorKind, Read};
 
 #[derive(Clone, Copy)]
 struct Group {
@@ -38,59 +40,90 @@ fn joined(a: u8, b: u8, c: u8, d: u8) -> u32 {
     a as u32 + 256 * (b as u32) + 65536 * (c as u32) + 16777216 * (d as u32)
 }
 
+// Whether a buffer was filled. An input that ends before fills none; a read that fails is an error.
+fn was_filled(read: io::Result<()>) -> io::Result<bool> {
+    match read {
+        Ok(()) => Ok(true),
+        Err(e) => {
+            if e.kind() == ErrorKind::UnexpectedEof {
+                return Ok(false);
+            }
+            Err(e)
+        }
+    }
+}
+
 // The next group of the list, if there is one.
-fn next_group() -> Group {
+fn next_group(input: &mut impl Read) -> io::Result<Group> {
     let mut g = [0u8; 16];
-    let got = io::read_full(STDIN_FILENO, &mut g);
-    Group {
-        read: got == 16,
+    let read = was_filled(input.read_exact(&mut g))?;
+    Ok(Group {
+        read,
         op: joined(g[0], g[1], g[2], g[3]),
         a: joined(g[4], g[5], g[6], g[7]),
         b: joined(g[8], g[9], g[10], g[11]),
         c: joined(g[12], g[13], g[14], g[15]),
-    }
+    })
 }
 
-fn title() {
+// Where the input ends within a title, what is left of it is zeros.
+fn title(rt: &impl Print, input: &mut impl Read) -> io::Result<()> {
     let mut t = [0u8; 64];
-    io::read_full(STDIN_FILENO, &mut t);
-    print::text(&t);
+    let _filled = was_filled(input.read_exact(&mut t))?;
+    print::text(rt, &t)
 }
 
 // A group that writes neither archive nor room.
-fn ask(g: Group, a: &[u8], picture: &mut [u8]) {
+fn ask(
+    rt: &impl Print,
+    input: &mut impl Read,
+    g: Group,
+    a: &[u8],
+    picture: &mut [u8],
+) -> io::Result<()> {
     let op = g.op;
     match op {
-        0 => title(),
-        3 => fill(picture, g.b as usize),
-        9 => calls::count(a),
-        10 => calls::entry(a, g.a),
-        11 => calls::stands(a, g.a),
-        12 => calls::find(a, g.a, g.b),
-        13 => calls::read(a, g.a, picture),
-        14 => calls::in_range(g.a, g.b),
-        15 => print::bytes(a, g.a as usize, g.b as usize),
-        _ => {}
+        0 => title(rt, input),
+        3 => {
+            fill(picture, g.b as usize);
+            Ok(())
+        }
+        9 => calls::count(rt, a),
+        10 => calls::entry(rt, a, g.a),
+        11 => calls::stands(rt, a, g.a),
+        12 => calls::find(rt, a, g.a, g.b),
+        13 => calls::read(rt, a, g.a, picture),
+        14 => calls::in_range(rt, g.a, g.b),
+        15 => print::bytes(rt, a, g.a as usize, g.b as usize),
+        _ => Ok(()),
     }
 }
 
 // One group, on the bytes that are lent. The length of the archive that was written last comes back.
-fn serve(g: Group, last: usize, a: &mut [u8], room: &mut [u8], picture: &mut [u8]) -> usize {
+fn serve(
+    rt: &impl Print,
+    input: &mut impl Read,
+    g: Group,
+    last: usize,
+    a: &mut [u8],
+    room: &mut [u8],
+    picture: &mut [u8],
+) -> io::Result<usize> {
     let op = g.op;
     match op {
-        4 => calls::start(room),
-        5 => calls::add(a, g.a, g.b, g.c, picture, room),
+        4 => calls::start(rt, room),
+        5 => calls::add(rt, a, g.a, g.b, g.c, picture, room),
         7 => {
             change(a, g.a as usize, (g.b % 256) as u8);
-            last
+            Ok(last)
         }
         8 => {
-            calls::count_changed(a, g.a as usize, (g.b % 256) as u8);
-            last
+            calls::count_changed(rt, a, g.a as usize, (g.b % 256) as u8)?;
+            Ok(last)
         }
         _ => {
-            ask(g, a, picture);
-            last
+            ask(rt, input, g, a, picture)?;
+            Ok(last)
         }
     }
 }
@@ -122,26 +155,42 @@ fn hold(l: Lengths, room: &[u8], held: &mut [u8]) -> Lengths {
 }
 
 // One group of the list.
-fn take(l: Lengths, g: Group, held: &mut [u8], room: &mut [u8], picture: &mut [u8]) -> Lengths {
+fn take(
+    rt: &impl Print,
+    input: &mut impl Read,
+    l: Lengths,
+    g: Group,
+    held: &mut [u8],
+    room: &mut [u8],
+    picture: &mut [u8],
+) -> io::Result<Lengths> {
     if g.op == 6 {
-        return hold(l, room, held);
+        return Ok(hold(l, room, held));
     }
     let mut after = resized(l, g.op, g.a as usize);
     let h = least(after.held, held.len());
     let r = least(after.room, room.len());
     let p = least(after.picture, picture.len());
     after.written = serve(
+        rt,
+        input,
         g,
         l.written,
         &mut held[..h],
         &mut room[..r],
         &mut picture[..p],
-    );
-    after
+    )?;
+    Ok(after)
 }
 
 // The loop counts its turns down, from a number that no run uses up, so that it is proved to end.
-fn play(held: &mut [u8], room: &mut [u8], picture: &mut [u8]) {
+fn play(
+    rt: &impl Print,
+    input: &mut impl Read,
+    held: &mut [u8],
+    room: &mut [u8],
+    picture: &mut [u8],
+) -> io::Result<()> {
     let mut l = Lengths {
         held: 0,
         room: 0,
@@ -150,18 +199,19 @@ fn play(held: &mut [u8], room: &mut [u8], picture: &mut [u8]) {
     };
     let mut turns = u64::MAX;
     while turns > 0 {
-        let g = next_group();
+        let g = next_group(input)?;
         if !g.read {
-            return;
+            return Ok(());
         }
-        l = take(l, g, held, room, picture);
+        l = take(rt, input, l, g, held, room, picture)?;
         turns -= 1;
     }
+    Ok(())
 }
 
-fn main() {
+fn main(rt: HostRuntime) -> io::Result<()> {
     let mut held = [0u8; 400000];
     let mut room = [0u8; 400000];
     let mut picture = [0u8; 23050];
-    play(&mut held, &mut room, &mut picture);
+    play(&rt, &mut rt.reader(), &mut held, &mut room, &mut picture)
 }

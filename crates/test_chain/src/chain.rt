@@ -3,6 +3,7 @@ use crate::memory::{fill, put};
 use board::Board;
 use lineset::LineSet;
 use paging::{Paging, Sizes, keyboard_index};
+use std::io;
 use test_print::{dirty_lines, record, text};
 
 // A board of 128 KB at power-on, its table at B600h.
@@ -41,15 +42,15 @@ fn chained(b: Board, at: usize, value: u8, ram: &mut [u8]) -> Board {
     after
 }
 
-fn print(b: Board) -> Board {
-    record(b);
-    dirty_lines(b);
-    b
+fn print(rt: &impl Print, b: Board) -> io::Result<Board> {
+    record(rt, b)?;
+    dirty_lines(rt, b)?;
+    Ok(b)
 }
 
-fn print_byte(b: Board, value: u8) -> Board {
-    text(&[value]);
-    b
+fn print_byte(rt: &impl Print, b: Board, value: u8) -> io::Result<Board> {
+    text(rt, &[value])?;
+    Ok(b)
 }
 
 fn without_dirty(b: Board) -> Board {
@@ -58,17 +59,25 @@ fn without_dirty(b: Board) -> Board {
     after
 }
 
-pub(crate) fn next(b: Board, op: u8, a: u8, at: usize, value: u8, ram: &mut [u8]) -> Board {
+pub(crate) fn next(
+    rt: &impl Print,
+    b: Board,
+    op: u8,
+    a: u8,
+    at: usize,
+    value: u8,
+    ram: &mut [u8],
+) -> io::Result<Board> {
     match op {
-        0 => power_on(value, ram),
-        1 => b.scan(),
-        2 => b.out(a, value),
-        3 => store(b, at, value, ram),
-        4 => key(b, a, value, ram),
-        5 => print(b),
-        6 => print_byte(b, value),
-        7 => chained(b, at, value, ram),
-        8 => without_dirty(b),
-        _ => b,
+        0 => Ok(power_on(value, ram)),
+        1 => Ok(b.scan()),
+        2 => Ok(b.out(a, value)),
+        3 => Ok(store(b, at, value, ram)),
+        4 => Ok(key(b, a, value, ram)),
+        5 => print(rt, b),
+        6 => print_byte(rt, b, value),
+        7 => Ok(chained(b, at, value, ram)),
+        8 => Ok(without_dirty(b)),
+        _ => Ok(b),
     }
 }

@@ -6,10 +6,12 @@
 // the record; 6 prints the byte v; 7 a scan, v to F6 and v stored at the index, in one expression; 8 leaves no line dirty. Any other
 // does nothing.
 #![tactic(auto)]
+
 mod chain;
 mod memory;
 
-use libc::STDIN_FILENO;
+use std::io;
+use std::io::{ErrorKind, Read};
 
 #[derive(Clone, Copy)]
 struct Group {
@@ -21,35 +23,49 @@ struct Group {
     v: u8,
 }
 
+// Whether a buffer was filled. An input that ends before fills none; a read that fails is an error.
+fn was_filled(read: io::Result<()>) -> io::Result<bool> {
+    match read {
+        Ok(()) => Ok(true),
+        Err(e) => {
+            if e.kind() == ErrorKind::UnexpectedEof {
+                return Ok(false);
+            }
+            Err(e)
+        }
+    }
+}
+
 // The next group of the list, if there is one.
-fn next_group() -> Group {
+fn next_group(input: &mut impl Read) -> io::Result<Group> {
     let mut g = [0u8; 5];
-    let got = io::read_full(STDIN_FILENO, &mut g);
-    Group {
-        read: got == 5,
+    let read = was_filled(input.read_exact(&mut g))?;
+    Ok(Group {
+        read,
         op: g[0],
         a: g[1],
         b: g[2],
         c: g[3],
         v: g[4],
-    }
+    })
 }
 
 // The loop counts its turns down, from a number that no run uses up, so that it is proved to end.
-fn play(ram: &mut [u8]) {
+fn play(rt: &impl Print, input: &mut impl Read, ram: &mut [u8]) -> io::Result<()> {
     let mut b = chain::start(50);
     let mut turns = u64::MAX;
     while turns > 0 {
-        let g = next_group();
+        let g = next_group(input)?;
         if !g.read {
-            return;
+            return Ok(());
         }
-        b = chain::next(b, g.op, g.a, memory::index(g.a, g.b, g.c), g.v, ram);
+        b = chain::next(rt, b, g.op, g.a, memory::index(g.a, g.b, g.c), g.v, ram)?;
         turns -= 1;
     }
+    Ok(())
 }
 
-fn main() {
+fn main(rt: HostRuntime) -> io::Result<()> {
     let mut ram = [0u8; 131072];
-    play(&mut ram);
+    play(&rt, &mut rt.reader(), &mut ram)
 }

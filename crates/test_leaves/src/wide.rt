@@ -1,18 +1,19 @@
 // A line widened for the panel, and lengths that are refused.
+use std::io;
 use test_print::{byte, hex, text};
 
-fn print_bytes(s: &[u8]) {
+fn print_bytes(rt: &impl Print, s: &[u8]) -> io::Result<()> {
     let n = s.len();
     for i in 0..n {
-        byte(b"", s[i]);
+        byte(rt, b"", s[i])?;
     }
-    text(b"\n");
+    text(rt, b"\n")
 }
 
-fn widened(line: &[u8], out: &mut [u8]) {
-    hex(b"refusal ", panel::widen(line, out) as u64, 1);
-    text(b" ");
-    print_bytes(out);
+fn widened(rt: &impl Print, line: &[u8], out: &mut [u8]) -> io::Result<()> {
+    hex(rt, b"refusal ", panel::widen(line, out) as u64, 1)?;
+    text(rt, b" ")?;
+    print_bytes(rt, out)
 }
 
 fn fill(line: &mut [u8]) {
@@ -22,19 +23,19 @@ fn fill(line: &mut [u8]) {
     }
 }
 
-pub(crate) fn wide() {
+pub(crate) fn wide(rt: &impl Print) -> io::Result<()> {
     let mut line = [0u8; 90];
     fill(&mut line);
     let mut out = [0x77u8; 180];
-    widened(&line, &mut out);
+    widened(rt, &line, &mut out)
 }
 
-pub(crate) fn not_wide() {
+pub(crate) fn not_wide(rt: &impl Print) -> io::Result<()> {
     let line = [0u8; 90];
     let long = [0u8; 91];
     let mut short = [0x77u8; 179];
-    widened(&line, &mut short);
+    widened(rt, &line, &mut short)?;
     let mut out = [0x77u8; 180];
-    widened(&long, &mut out);
-    widened(b"", &mut out);
+    widened(rt, &long, &mut out)?;
+    widened(rt, b"", &mut out)
 }

@@ -6,7 +6,8 @@
 // power-on at rate a; 11 a refresh; 12 a step of kind a, number b and value c on a RAM one byte short; 13 a refresh of
 // a picture one byte short; 20 the end of a scene; 21 a byte to print; 22 line a of the picture to print.
 #![tactic(auto)]
-ghost use Rattle.std.specs.Prelude.{◌≡◌, ◌≤◌};
+
+ghost use Rattle.std.specs.Prelude.{◌≡◌, ◌≤◌, IfOk};
 
 mod bytes;
 mod pixels;
@@ -14,27 +15,28 @@ mod tally;
 
 use crate::bytes::{fill, sum};
 use crate::tally::Run;
-use libc::{STDIN_FILENO, STDOUT_FILENO};
+use std::io;
+use std::io::{ErrorKind, Read};
 use step::Step;
 use step_rules::decode_step;
 
-fn number(label: &[u8], n: u64) {
-    io::write_all(STDOUT_FILENO, label);
-    io::print_decimal(STDOUT_FILENO, n);
+fn number(rt: &impl Print, label: &[u8], n: u64) -> io::Result<()> {
+    rt.write_all(label)?;
+    print!(rt; "{n}")
 }
 
 // What was asked for, then what must be 0, then sums of the bytes.
-fn report(r: Run, picture: &[u8], ram: &[u8]) {
-    number(b": steps ", r.steps);
-    number(b", refused ", r.refused);
-    number(b", refreshes ", r.refreshes);
-    number(b", lines ", r.lines);
-    number(b", wrong ", r.wrong);
-    number(b", differed ", r.differed);
-    number(b", spoilt ", r.spoilt);
-    number(b", picture ", sum(picture));
-    number(b", ram ", sum(ram));
-    io::write_all(STDOUT_FILENO, b"\n");
+fn report(rt: &impl Print, r: Run, picture: &[u8], ram: &[u8]) -> io::Result<()> {
+    number(rt, b": steps ", r.steps)?;
+    number(rt, b", refused ", r.refused)?;
+    number(rt, b", refreshes ", r.refreshes)?;
+    number(rt, b", lines ", r.lines)?;
+    number(rt, b", wrong ", r.wrong)?;
+    number(rt, b", differed ", r.differed)?;
+    number(rt, b", spoilt ", r.spoilt)?;
+    number(rt, b", picture ", sum(picture))?;
+    number(rt, b", ram ", sum(ram))?;
+    rt.write_all(b"\n")
 }
 
 // The step of a group.
@@ -42,9 +44,9 @@ fn asked(kind: u8, low: u8, high: u8, value: u8) -> Step {
     decode_step(kind as u32, low as u32 + 256 * high as u32, value as u32)
 }
 
-fn put(byte: u8) {
+fn put(rt: &impl Print, byte: u8) -> io::Result<()> {
     let one = [byte];
-    io::write_all(STDOUT_FILENO, &one);
+    rt.write_all(&one)
 }
 
 // The second index of n, if there is one.
@@ -65,6 +67,7 @@ fn power_on(rate: u8, ram: &mut [u8], picture: &mut [u8]) -> Run {
 
 // One group of the list.
 fn take(
+    rt: &impl Print,
     run: Run,
     op: u8,
     a: u8,
@@ -73,31 +76,31 @@ fn take(
     ram: &mut [u8],
     picture: &mut [u8],
     full: &mut [u8],
-) -> Run {
+) -> io::Result<Run> {
     match op {
-        10 => power_on(a, ram, picture),
-        11 => tally::refresh(run, ram, picture, full),
+        10 => Ok(power_on(a, ram, picture)),
+        11 => Ok(tally::refresh(run, ram, picture, full)),
         12 => {
             let from = second(ram.len());
-            tally::short_step(run, asked(a, b, 0, c), &mut ram[from..])
+            Ok(tally::short_step(run, asked(a, b, 0, c), &mut ram[from..]))
         }
         13 => {
             let from = second(picture.len());
-            tally::short_refresh(run, ram, &mut picture[from..])
+            Ok(tally::short_refresh(run, ram, &mut picture[from..]))
         }
         20 => {
-            report(run, picture, ram);
-            tally::counting(run.board)
+            report(rt, run, picture, ram)?;
+            Ok(tally::counting(run.board))
         }
         21 => {
-            put(a);
-            run
+            put(rt, a)?;
+            Ok(run)
         }
         22 => {
-            pixels::print_line(picture, a);
-            run
+            pixels::print_line(rt, picture, a)?;
+            Ok(run)
         }
-        _ => tally::go(run, asked(op, a, b, c), ram),
+        _ => Ok(tally::go(run, asked(op, a, b, c), ram)),
     }
 }
 
@@ -110,39 +113,59 @@ struct Group {
     c: u8,
 }
 
+// Whether a buffer was filled. An input that ends before fills none; a read that fails is an error.
+fn was_filled(read: io::Result<()>) -> io::Result<bool> {
+    match read {
+        Ok(()) => Ok(true),
+        Err(e) => {
+            if e.kind() == ErrorKind::UnexpectedEof {
+                return Ok(false);
+            }
+            Err(e)
+        }
+    }
+}
+
 // The next group of the list, if there is one.
-fn next_group() -> Group {
+fn next_group(input: &mut impl Read) -> io::Result<Group> {
     let mut g = [0u8; 4];
-    let got = io::read_full(STDIN_FILENO, &mut g);
-    Group {
-        read: got == 4,
+    let read = was_filled(input.read_exact(&mut g))?;
+    Ok(Group {
+        read,
         op: g[0],
         a: g[1],
         b: g[2],
         c: g[3],
-    }
+    })
 }
 
 // The loop counts its turns down, from a number that no run uses up, so that it is proved to end.
-fn play(ram: &mut [u8], picture: &mut [u8], full: &mut [u8]) {
+fn play(
+    rt: &impl Print,
+    input: &mut impl Read,
+    ram: &mut [u8],
+    picture: &mut [u8],
+    full: &mut [u8],
+) -> io::Result<()> {
     let mut r = tally::start(50);
     let mut turns = u64::MAX;
     while turns > 0 {
-        let g = next_group();
+        let g = next_group(input)?;
         if !g.read {
-            return;
+            return Ok(());
         }
-        r = take(r, g.op, g.a, g.b, g.c, ram, picture, full);
+        r = take(rt, r, g.op, g.a, g.b, g.c, ram, picture, full)?;
         turns -= 1;
     }
+    Ok(())
 }
 
 // No clause can say what is read or written.
-pub fn run()
-    ensures { result ≡ tt }
+pub fn run(rt: &(impl Print + Input)) -> io::Result<()>
+    ensures { IfOk result (λ x. x ≡ tt) }
 {
     let mut ram = [0u8; 131072];
     let mut picture = [0u8; 23040];
     let mut full = [0u8; 23040];
-    play(&mut ram, &mut picture, &mut full);
+    play(rt, &mut rt.reader(), &mut ram, &mut picture, &mut full)
 }

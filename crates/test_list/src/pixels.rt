@@ -1,5 +1,5 @@
 // Lines of a picture, printed pixel by pixel.
-use libc::STDOUT_FILENO;
+use std::io;
 
 // A lit pixel and a dark one.
 fn mark(pixel: u8) -> u8 {
@@ -7,7 +7,7 @@ fn mark(pixel: u8) -> u8 {
 }
 
 // The eight pixels of a byte, the leftmost in its top bit.
-fn print_byte(byte: u8) {
+fn print_byte(rt: &impl Print, byte: u8) -> io::Result<()> {
     let eight = [
         mark(byte / 128),
         mark(byte / 64),
@@ -18,13 +18,13 @@ fn print_byte(byte: u8) {
         mark(byte / 2),
         mark(byte),
     ];
-    io::write_all(STDOUT_FILENO, &eight);
+    rt.write_all(&eight)
 }
 
-pub(crate) fn print_line(picture: &[u8], line: u8) {
+pub(crate) fn print_line(rt: &impl Print, picture: &[u8], line: u8) -> io::Result<()> {
     let first = line as usize * 90;
     for i in 0..90 {
-        print_byte(paging::byte_at(picture, first + i));
+        print_byte(rt, paging::byte_at(picture, first + i))?;
     }
-    io::write_all(STDOUT_FILENO, b"\n");
+    rt.write_all(b"\n")
 }

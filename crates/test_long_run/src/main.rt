@@ -1,5 +1,8 @@
 // A long list of steps and refreshes, scene after scene.
 #![tactic(auto)]
-fn main() {
-    test_list::run();
+
+use std::io;
+
+fn main(rt: HostRuntime) -> io::Result<()> {
+    test_list::run(&rt)
 }

@@ -1,130 +1,133 @@
 // Prints texts, numbers, records and answers to standard output: addresses, bytes and registers in hex, all else in decimal.
-// No clause can say what is written: these return nothing, and end.
+// No clause can say what is written: these return nothing, or that a write failed, and end.
 #![tactic(auto)]
-ghost use Rattle.std.specs.Prelude.{◌≡◌};
+
+ghost use Rattle.std.specs.Prelude.{◌≡◌, IfOk};
 
 use board::{Board, Boot, Clock, Disc};
 use lineset::LineSet;
 use paging::Paging;
 use scanline::Video;
+use std::io;
 use step::Answer;
 
-pub fn text(label: &[u8])
-    ensures { result ≡ tt }
+pub fn text(rt: &impl Print, label: &[u8]) -> io::Result<()>
+    ensures { IfOk result (λ x. x ≡ tt) }
 {
-    io::write_all(1, label);
+    rt.write_all(label)
 }
 
-pub fn small(name: &[u8], n: u8)
-    ensures { result ≡ tt }
+pub fn small(rt: &impl Print, name: &[u8], n: u8) -> io::Result<()>
+    ensures { IfOk result (λ x. x ≡ tt) }
 {
-    text(name);
-    io::print_decimal(1, n as u64);
+    text(rt, name)?;
+    print!(rt; "{n}")
 }
 
-pub fn medium(name: &[u8], n: u16)
-    ensures { result ≡ tt }
+pub fn medium(rt: &impl Print, name: &[u8], n: u16) -> io::Result<()>
+    ensures { IfOk result (λ x. x ≡ tt) }
 {
-    text(name);
-    io::print_decimal(1, n as u64);
+    text(rt, name)?;
+    print!(rt; "{n}")
 }
 
-pub fn flag(name: &[u8], on: bool)
-    ensures { result ≡ tt }
+pub fn flag(rt: &impl Print, name: &[u8], on: bool) -> io::Result<()>
+    ensures { IfOk result (λ x. x ≡ tt) }
 {
-    text(name);
-    io::print_decimal(1, on as u64);
+    small(rt, name, on as u8)
 }
 
-pub fn byte(name: &[u8], n: u8)
-    ensures { result ≡ tt }
+pub fn byte(rt: &impl Print, name: &[u8], n: u8) -> io::Result<()>
+    ensures { IfOk result (λ x. x ≡ tt) }
 {
-    text(name);
-    io::print_hex(1, n as u64, 2);
+    text(rt, name)?;
+    print!(rt; "{n:02x}")
 }
 
-pub fn hex(name: &[u8], n: u64, width: usize)
-    ensures { result ≡ tt }
+// At least as many digits as `width`, which counts as 16 where it is more.
+pub fn hex(rt: &impl Print, name: &[u8], n: u64, width: usize) -> io::Result<()>
+    ensures { IfOk result (λ x. x ≡ tt) }
 {
-    text(name);
-    io::print_hex(1, n, width);
+    text(rt, name)?;
+    let width = width.min(16);
+    print!(rt; "{n:0width$x}")
 }
 
 // A set's four words, the lines from 0 up first.
-pub fn set(name: &[u8], s: LineSet)
-    ensures { result ≡ tt }
+pub fn set(rt: &impl Print, name: &[u8], s: LineSet) -> io::Result<()>
+    ensures { IfOk result (λ x. x ≡ tt) }
 {
-    hex(name, s.words[0], 16);
-    hex(b" ", s.words[1], 16);
-    hex(b" ", s.words[2], 16);
-    hex(b" ", s.words[3], 16);
+    hex(rt, name, s.words[0], 16)?;
+    hex(rt, b" ", s.words[1], 16)?;
+    hex(rt, b" ", s.words[2], 16)?;
+    hex(rt, b" ", s.words[3], 16)
 }
 
-fn paging_bytes(p: Paging) {
-    byte(b" maps ", p.maps[0]);
-    byte(b" ", p.maps[1]);
-    byte(b" ", p.maps[2]);
-    byte(b" ", p.maps[3]);
-    byte(b" lock ", p.lock);
+fn paging_bytes(rt: &impl Print, p: Paging) -> io::Result<()> {
+    byte(rt, b" maps ", p.maps[0])?;
+    byte(rt, b" ", p.maps[1])?;
+    byte(rt, b" ", p.maps[2])?;
+    byte(rt, b" ", p.maps[3])?;
+    byte(rt, b" lock ", p.lock)
 }
 
-fn video_bytes(v: Video) {
-    byte(b" F5 ", v.table);
-    byte(b" F6 ", v.top);
-    byte(b" F7 ", v.control);
+fn video_bytes(rt: &impl Print, v: Video) -> io::Result<()> {
+    byte(rt, b" F5 ", v.table)?;
+    byte(rt, b" F6 ", v.top)?;
+    byte(rt, b" F7 ", v.control)
 }
 
 // Counter, beam, boot mode and the place in the boot stream.
-fn times(c: Clock, b: Boot) {
-    small(b" counter ", c.counter);
-    medium(b" beam ", c.beam);
-    small(b" boot ", b.mode);
-    medium(b" at ", b.at);
+fn times(rt: &impl Print, c: Clock, b: Boot) -> io::Result<()> {
+    small(rt, b" counter ", c.counter)?;
+    medium(rt, b" beam ", c.beam)?;
+    small(rt, b" boot ", b.mode)?;
+    medium(rt, b" at ", b.at)
 }
 
-fn disc_bytes(d: Disc) {
-    small(b" route ", d.route);
-    small(b" line ", d.line);
-    small(b" count ", d.terminal_count);
-    small(b" motor ", d.motor);
+fn disc_bytes(rt: &impl Print, d: Disc) -> io::Result<()> {
+    small(rt, b" route ", d.route)?;
+    small(rt, b" line ", d.line)?;
+    small(rt, b" count ", d.terminal_count)?;
+    small(rt, b" motor ", d.motor)
 }
 
 // All of a record but the dirty lines.
-pub fn record(b: Board)
-    ensures { result ≡ tt }
+pub fn record(rt: &impl Print, b: Board) -> io::Result<()>
+    ensures { IfOk result (λ x. x ≡ tt) }
 {
-    small(b"   ", b.sizes.internal);
-    small(b" of ", b.sizes.total);
-    small(b" rate ", b.rate);
-    paging_bytes(b.paging);
-    video_bytes(b.video);
-    times(b.clock, b.boot);
-    disc_bytes(b.disc);
-    small(b" external ", b.external);
-    small(b" driven ", b.driven);
-    small(b" bleeper ", b.bleeper);
+    small(rt, b"   ", b.sizes.internal)?;
+    small(rt, b" of ", b.sizes.total)?;
+    small(rt, b" rate ", b.rate)?;
+    paging_bytes(rt, b.paging)?;
+    video_bytes(rt, b.video)?;
+    times(rt, b.clock, b.boot)?;
+    disc_bytes(rt, b.disc)?;
+    small(rt, b" external ", b.external)?;
+    small(rt, b" driven ", b.driven)?;
+    small(rt, b" bleeper ", b.bleeper)
 }
 
-pub fn dirty_lines(b: Board)
-    ensures { result ≡ tt }
+pub fn dirty_lines(rt: &impl Print, b: Board) -> io::Result<()>
+    ensures { IfOk result (λ x. x ≡ tt) }
 {
-    set(b"   dirty ", b.dirty);
-    text(b"\n");
+    set(rt, b"   dirty ", b.dirty)?;
+    text(rt, b"\n")
 }
 
 // A step's line after its numbers: the reply, with what of the record moves most.
-pub fn answer(a: Answer)
-    ensures { result ≡ tt }
+pub fn answer(rt: &impl Print, a: Answer) -> io::Result<()>
+    ensures { IfOk result (λ x. x ≡ tt) }
 {
-    byte(b": ", a.reply.byte);
-    flag(b" int ", a.reply.int);
-    flag(b" nmi ", a.reply.nmi);
-    flag(b" host ", a.reply.forwarded);
-    small(b" refusal ", a.reply.refusal);
+    byte(rt, b": ", a.reply.byte)?;
+    flag(rt, b" int ", a.reply.int)?;
+    flag(rt, b" nmi ", a.reply.nmi)?;
+    flag(rt, b" host ", a.reply.forwarded)?;
+    small(rt, b" refusal ", a.reply.refusal)?;
     let b = a.board;
-    times(b.clock, b.boot);
-    small(b" route ", b.disc.route);
+    times(rt, b.clock, b.boot)?;
+    small(rt, b" route ", b.disc.route)?;
     let dirty = b.dirty;
-    medium(b" dirty ", dirty.count());
-    text(b"\n");
+    medium(rt, b" dirty ", dirty.count())?;
+    text(rt, b"\n")
 }

@@ -4,6 +4,7 @@
 // Any other: text.
 use crate::record::{field, power};
 use board::Board;
+use std::io;
 use step::Answer;
 use test_print::{answer, byte, dirty_lines, flag, record, small, text};
 
@@ -30,6 +31,7 @@ fn take(b: Board, kind: u8, at: u32, value: u8, ram: &mut [u8], boot: &[u8]) -> 
 
 // A step and its line. Where `ticks`, only a scan that lands on a tick's beam has one.
 fn one(
+    rt: &impl Print,
     board: Board,
     kind: u8,
     a: u8,
@@ -38,34 +40,49 @@ fn one(
     ticks: bool,
     ram: &mut [u8],
     boot: &[u8],
-) -> Board {
+) -> io::Result<Board> {
     let x = take(board, kind, triple(a, b, 0), c, ram, boot);
     if ticks & (x.board.clock.beam % 52 != 2) {
-        return x.board;
+        return Ok(x.board);
     }
-    small(b"", kind);
-    byte(b" ", b);
-    byte(b"", a);
-    byte(b" ", c);
-    answer(x);
-    x.board
+    small(rt, b"", kind)?;
+    byte(rt, b" ", b)?;
+    byte(rt, b"", a)?;
+    byte(rt, b" ", c)?;
+    answer(rt, x)?;
+    Ok(x.board)
 }
 
-fn many(b: Board, kind: u8, n: u32, ram: &mut [u8], boot: &[u8]) -> Board {
+fn many(
+    rt: &impl Print,
+    b: Board,
+    kind: u8,
+    n: u32,
+    ram: &mut [u8],
+    boot: &[u8],
+) -> io::Result<Board> {
     let mut b = b;
     for _i in 0..n {
-        b = one(b, kind, 0, 0, 0, true, ram, boot);
+        b = one(rt, b, kind, 0, 0, 0, true, ram, boot)?;
     }
-    b
+    Ok(b)
 }
 
 // All 256 ports, each from the same record: the refusal, and whether it is forwarded.
-fn every_port(b: Board, kind: u8, value: u8, ram: &mut [u8], boot: &[u8]) {
+fn every_port(
+    rt: &impl Print,
+    b: Board,
+    kind: u8,
+    value: u8,
+    ram: &mut [u8],
+    boot: &[u8],
+) -> io::Result<()> {
     for n in 0..256 {
         let a = take(b, kind, n, value, ram, boot);
-        small(b" ", a.reply.refusal);
-        flag(b"", a.reply.forwarded);
+        small(rt, b" ", a.reply.refusal)?;
+        flag(rt, b"", a.reply.forwarded)?;
     }
+    Ok(())
 }
 
 fn fill(value: u8, ram: &mut [u8]) {
@@ -76,80 +93,99 @@ fn fill(value: u8, ram: &mut [u8]) {
 }
 
 // What takes the RAM and the stream as lent.
-fn act(board: Board, op: u8, a: u8, b: u8, c: u8, ram: &mut [u8], boot: &[u8]) -> Board {
+fn act(
+    rt: &impl Print,
+    board: Board,
+    op: u8,
+    a: u8,
+    b: u8,
+    c: u8,
+    ram: &mut [u8],
+    boot: &[u8],
+) -> io::Result<Board> {
     match op {
         16 => {
             let at = triple(a, b, c) as usize;
-            byte(b"   ", paging::byte_at(ram, at));
-            board
+            byte(rt, b"   ", paging::byte_at(ram, at))?;
+            Ok(board)
         }
-        17 => many(board, c, triple(a, b, 0), ram, boot),
+        17 => many(rt, board, c, triple(a, b, 0), ram, boot),
         18 => {
-            every_port(board, a, b, ram, boot);
-            board
+            every_port(rt, board, a, b, ram, boot)?;
+            Ok(board)
         }
         19 => {
             fill(a, ram);
-            board
+            Ok(board)
         }
-        _ => one(board, op, a, b, c, false, ram, boot),
+        _ => one(rt, board, op, a, b, c, false, ram, boot),
     }
 }
 
 // What takes the record alone.
-fn alone(board: Board, op: u8, a: u8, b: u8, c: u8) -> Board {
+fn alone(rt: &impl Print, board: Board, op: u8, a: u8, b: u8, c: u8) -> io::Result<Board> {
     match op {
-        10 => power(a, b, c),
-        13 => field(board, a, b, c),
+        10 => power(rt, a, b, c),
+        13 => Ok(field(board, a, b, c)),
         14 => {
-            record(board);
-            dirty_lines(board);
-            board
+            record(rt, board)?;
+            dirty_lines(rt, board)?;
+            Ok(board)
         }
         15 => {
-            dirty_lines(board);
-            board
+            dirty_lines(rt, board)?;
+            Ok(board)
         }
         _ => {
-            text(&[a, b, c]);
-            board
+            text(rt, &[a, b, c])?;
+            Ok(board)
         }
     }
 }
 
-fn group(s: State, op: u8, a: u8, b: u8, c: u8, ram: &mut [u8], list: &[u8]) -> State {
+fn group(
+    rt: &impl Print,
+    s: State,
+    op: u8,
+    a: u8,
+    b: u8,
+    c: u8,
+    ram: &mut [u8],
+    list: &[u8],
+) -> io::Result<State> {
     let mut s = s;
     let n = s.ram;
     let m = s.boot;
     if op == 11 {
         s.ram = triple(a, b, c) as usize;
-        return s;
+        return Ok(s);
     }
     if op == 12 {
         s.boot = triple(a, b, c) as usize;
-        return s;
+        return Ok(s);
     }
     if (op == 0) | ((op >= 10) & (op <= 15)) {
-        let board = alone(s.board, op, a, b, c);
+        let board = alone(rt, s.board, op, a, b, c)?;
         s.board = board;
-        return s;
+        return Ok(s);
     }
     if n > ram.len() {
-        return s;
+        return Ok(s);
     }
     if m > list.len() {
-        return s;
+        return Ok(s);
     }
-    let board = act(s.board, op, a, b, c, &mut ram[..n], &list[..m]);
+    let board = act(rt, s.board, op, a, b, c, &mut ram[..n], &list[..m])?;
     s.board = board;
-    s
+    Ok(s)
 }
 
-pub(crate) fn run(s: State, list: &[u8], ram: &mut [u8]) {
+pub(crate) fn run(rt: &impl Print, s: State, list: &[u8], ram: &mut [u8]) -> io::Result<()> {
     let mut s = s;
     let n = list.len() / 4;
     for i in 0..n {
         s = group(
+            rt,
             s,
             list[4 * i],
             list[4 * i + 1],
@@ -157,6 +193,7 @@ pub(crate) fn run(s: State, list: &[u8], ram: &mut [u8]) {
             list[4 * i + 3],
             ram,
             list,
-        );
+        )?;
     }
+    Ok(())
 }

@@ -1,12 +1,15 @@
 // Runs a list of groups from standard input on one record and one RAM, and prints their answers. The files stdin and
 // stdout were both made from documents 01 and 02.
 #![tactic(auto)]
+
 mod groups;
 mod record;
 
-ghost use Rattle.std.specs.Prelude.{◌≡◌, length};
+ghost use Rattle.std.specs.Prelude.{◌≡◌, ◌≤◌, IfOk, length};
 
 use groups::State;
+use std::io;
+use std::io::Read;
 
 // 18 blocks of zeros and a byte. Lending the array as a slice needs its length.
 fn memory() -> [u8; 294913]
@@ -15,14 +18,29 @@ fn memory() -> [u8; 294913]
     [0; 294913]
 }
 
-fn main() {
-    let mut input = io::large_buffer();
-    let got = io::read_full(0, &mut input);
+// Reads until `buf` is full or the input ends, and gives how many bytes came.
+fn read_full(input: &mut impl Read, buf: &mut [u8]) -> io::Result<usize>
+    ensures { IfOk result (λ n. n ≤ length buf.new) }
+{
+    let mut done = 0;
+    while done < buf.len() {
+        let got = input.read(&mut buf[done..])?;
+        if got == 0 {
+            return Ok(done);
+        }
+        done += got;
+    }
+    Ok(done)
+}
+
+fn main(rt: HostRuntime) -> io::Result<()> {
+    let mut input = [0u8; 65536];
+    let got = read_full(&mut rt.reader(), &mut input)?;
     let mut ram = memory();
     let s = State {
-        board: record::power(0, 0, 0),
+        board: record::power(&rt, 0, 0, 0)?,
         ram: 0,
         boot: 0,
     };
-    groups::run(s, &input[..got], &mut ram);
+    groups::run(&rt, s, &input[..got], &mut ram)
 }

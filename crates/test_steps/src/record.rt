@@ -2,19 +2,20 @@
 use board::Board;
 use lineset::LineSet;
 use paging::{Paging, Sizes};
+use std::io;
 use test_print::{small, text};
 
 // Each bank on the block of its number, the table at block 1, place 0. Prints the refusal.
-pub(crate) fn power(internal: u8, total: u8, rate: u8) -> Board {
+pub(crate) fn power(rt: &impl Print, internal: u8, total: u8, rate: u8) -> io::Result<Board> {
     let sizes = Sizes { internal, total };
     let p = Paging {
         maps: [0x80, 0x81, 0x82, 0x83],
         lock: 0,
     };
     let s = board_power::power_on(sizes, rate, p, 0x20, 0);
-    small(b"power-on refusal ", s.refusal);
-    text(b"\n");
-    s.board
+    small(rt, b"power-on refusal ", s.refusal)?;
+    text(rt, b"\n")?;
+    Ok(s.board)
 }
 
 // The fields by number; any other sets the dirty lines: n has 192 to 199, and `high` 200 to 207.
