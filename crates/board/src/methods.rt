@@ -112,6 +112,7 @@ impl Board {
     }
 
     // A write to a port, with the lines that it makes dirty, whatever the RAM holds.
+    #[tactic(auto, unfolding(crate::specs::Registers::written))]
     pub fn out(self, port: u8, value: u8) -> Board
         ensures { (ram : List ℕ) → result ≡ with_marks self ram (written self port value) ram }
     {

@@ -1,11 +1,11 @@
 -- A step whose record and buffers are refused, or found good.
-use Rattle.std.proofs.Common.{ℕ, ◌≤◌, ◌≡◌, refl, sym, ◌∙◌, ap, List, length}
+use Rattle.std.proofs.Common.{ℕ, ◌≤◌, ◌≡◌, refl, sym, List, length}
 use Rattle.board.specs.declared.record.Board.{Board}
 use Rattle.board.proofs.Good.{good_counter}
 use Rattle.step_rules.specs.declared.Step.{Step}
 use Rattle.step_rules.specs.Answers.{lent_refusal, refused_answer, answer_of, step_effect, effect_ram, step_answer, step_ram}
 use Rattle.step_rules.specs.Decoding.{Decoded, step_of, numbers_answer, numbers_ram}
-use Rattle.step_rules.proofs.Answers.{lent_good, lent_boot, step_refused, step_kept, step_own, step_own_ram}
+use Rattle.step_rules.proofs.Answers.{lent_good, step_refused, step_kept, step_own, step_own_ram}
 use Rattle.step_rules.proofs.Decoding.{numbers_answer_lem, numbers_ram_lem}
 
 module _ (b : Board) (ram boot : List ℕ) (s : Step) where

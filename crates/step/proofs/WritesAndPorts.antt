@@ -1,6 +1,5 @@
 -- What a write past block 7 and a port out do, by the refusals of the kind itself.
-use Rattle.std.proofs.Common.{ℕ, ◌≤◌, ◌<◌, ◌≡◌, refl, sym, ◌∙◌, ap, Bool, true, false, ◌&&◌, List, arith, leb, set}
-use borrow.Author.Tests.{le-leb, lt-leb}
+use Rattle.std.proofs.Common.{ℕ, ◌≤◌, ◌<◌, ◌≡◌, refl, sym, ◌∙◌, ap, true, false, ◌&&◌, List, arith, leb}
 use Rattle.lineset.specs.declared.LineSet.{LineSet}
 use Rattle.lineset.proofs.Sets.{Words}
 use Rattle.paging.specs.Memory.{place_of, index_of, write_block, write_index}

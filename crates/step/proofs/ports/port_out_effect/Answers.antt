@@ -1,5 +1,5 @@
 -- A port that changes nothing marks no line.
-use Rattle.std.proofs.Common.{rules, arith, sym, ◌∙◌}
+use Rattle.std.proofs.Common.{rules, arith}
 use Rattle.lineset.proofs.Sets.{Words, words_of}
 use Rattle.step.proofs.WritesAndPorts.{out_forwarded, out_idle}
 use Rattle.step.proofs.ports.port_out_effect.Goals as goal

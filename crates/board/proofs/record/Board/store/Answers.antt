@@ -1,8 +1,7 @@
-use Rattle.std.proofs.Common.{rules, sym, ◌∙◌, ap, ℕ, set}
+use Rattle.std.proofs.Common.{rules, sym, ◌∙◌, ap}
 use Rattle.lineset.specs.declared.LineSet.{LineSet}
 use Rattle.lineset.proofs.Sets.{Words, words_of}
 use Rattle.board.specs.Record.{view_of, with_dirty}
-use Rattle.board.specs.Dirty.{with_marks}
 use Rattle.board.proofs.Dirty.{store_unmarked, store_out}
 use Rattle.board.proofs.record.Board.store.Goals as goal
 
