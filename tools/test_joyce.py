@@ -164,7 +164,7 @@ class Joyce(unittest.TestCase):
         self.assertEqual((status, out), (0, "tool: demo a b *\n"), said)
         told = [line for line in said.split("\n") if line.startswith("crate ")]
         self.assertEqual(told, ["crate %d of %d proved: %s" % (k, n, name) for k, name in [(1, "facts"), (2, "paging"), (3, "step"), (4, "joyce")]])
-        self.assertEqual(calls, ["rt lib", "cargo build --release --quiet --offline"])
+        self.assertEqual(calls, ["rt lib --cpu x86-64", "cargo build --release --quiet --offline"])
 
     def test_what_is_built_is_only_run(self):
         self.assertEqual(self.joyce("demo")[0], 0)
@@ -186,7 +186,7 @@ class Joyce(unittest.TestCase):
 
     def test_newer_sources_are_built(self):
         self.joyce("demo")
-        for name, calls in [("host/src/main.rs", ["cargo build --release --quiet --offline"]), ("crates/joyce/lib.rt", ["rt lib", "cargo build --release --quiet --offline"])]:
+        for name, calls in [("host/src/main.rs", ["cargo build --release --quiet --offline"]), ("crates/joyce/lib.rt", ["rt lib --cpu x86-64", "cargo build --release --quiet --offline"])]:
             self.assertEqual(self.joyce("demo")[3], [])
             after = time.time() + 2
             os.utime(self.repository / name, (after, after))
