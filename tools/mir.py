@@ -1,4 +1,4 @@
-"""Reads what `rt mir CRATE` prints: the crate's functions, and those of the crates below that they call, as the compiler has read
+"""Reads what mir_text.py prints: functions of the crates, as the compiler has read
 them. One expression, `program FUNCTIONS MAIN`, of words, strings in quotes and brackets; a list is `lcons HEAD TAIL` and `lnil`."""
 import re
 

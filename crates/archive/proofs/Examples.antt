@@ -1,9 +1,8 @@
 -- The format at numbers: what stands where, byte by byte.
 -- Assumes nothing.
-use Prim.Native.Nat.{ℕ}
 use mathlib.Core.Path.{◌≡◌, refl}
 use mathlib.Core.Bool.{true, false}
-use mathlib.Core.List.{[], ◌∷◌, append-nil}
+use mathlib.Core.List.{[], ◌∷◌}
 use Rattle.facts.specs.Tests.{every}
 use Rattle.byte_rows.specs.Numbers.{number4, at4}
 use Rattle.byte_rows.specs.Rows.{rows}

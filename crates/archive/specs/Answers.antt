@@ -7,7 +7,6 @@ use Rattle.archive.specs.declared.EntryRead.{EntryRead}
 use Rattle.archive.specs.declared.search.Index.{Index}
 use Rattle.archive.specs.declared.search.Index.TheVariants.{At, Nothing}
 use Rattle.archive.specs.declared.Found.{Found}
-use Rattle.archive.specs.Format.{Frame}
 use Rattle.archive.specs.Sound.{count_of, entry_of, frame_at, good_bench, good_shown, has_pair, sound}
 
 abbrev pub no_entry : Entry

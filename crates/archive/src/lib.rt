@@ -1,5 +1,6 @@
 // An archive (document 02: a book of frames): whether it is sound, its count, its entries, and where a bench and number stand.
 #![tactic(auto)]
+
 ghost use Rattle.std.specs.Prelude.{◌≡◌};
 ghost use Rattle.archive.specs.Sound.{sound};
 ghost use Rattle.archive.specs.Answers.{no_entry, entry_at, good_fields, count_answer, entry_answer, find_answer};
@@ -41,6 +42,7 @@ pub fn is_sound(a: &[u8]) -> bool
 }
 
 // Whether bench and shown lines are in range.
+#[tactic(auto, unfolding(crate::specs::Answers::good_fields))]
 pub fn good_fields(bench: u32, shown: u32) -> bool
     ensures { result ≡ good_fields bench shown }
 {
@@ -51,6 +53,7 @@ pub fn good_fields(bench: u32, shown: u32) -> bool
 }
 
 // Entry k as it stands, in whatever bytes; zeros where it is not wholly there.
+#[tactic(auto, unfolding(crate::specs::Answers::entry_at))]
 pub fn entry_at(a: &[u8], k: u32) -> Entry
     ensures { result ≡ entry_at a.now k }
 {

@@ -28,6 +28,7 @@ fn joined(a: u8, b: u8, c: u8, d: u8) -> u32
 }
 
 // The number whose bytes start at an index.
+#[tactic(auto, unfolding(byte_rows::specs::Numbers::at4))]
 pub(crate) fn read4(a: &[u8], at: usize) -> u32
     requires { at + 4 ≤ length a.now }
     ensures { result ≡ at4 a.now at }
@@ -35,6 +36,7 @@ pub(crate) fn read4(a: &[u8], at: usize) -> u32
     joined(a[at], a[at + 1], a[at + 2], a[at + 3])
 }
 
+#[tactic(auto, unfolding(crate::specs::Sound::header_of))]
 pub(crate) fn read_header(a: &[u8]) -> Header
     requires { 20 ≤ length a.now }
     ensures { result ≡ header_of a.now }
@@ -48,6 +50,7 @@ pub(crate) fn read_header(a: &[u8]) -> Header
     }
 }
 
+#[tactic(auto, unfolding(crate::specs::Sound::entry_of, crate::specs::Sound::bench_at, crate::specs::Sound::number_at, crate::specs::Sound::shown_at, crate::specs::Sound::offset_at, crate::specs::Format::entry_offset))]
 pub(crate) fn read_entry(a: &[u8], k: usize) -> Entry
     requires { 20 + 16 * k + 16 ≤ length a.now }
     ensures { result ≡ entry_of a.now k }

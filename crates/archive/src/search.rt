@@ -13,6 +13,7 @@ pub enum Index {
 }
 
 // Whether entry j has the pair.
+#[tactic(auto, unfolding(crate::specs::Sound::has_pair, crate::specs::Sound::frame_at, crate::specs::Sound::entry_of))]
 pub(crate) fn has_pair(a: &[u8], j: usize, bench: u32, number: u32) -> bool
     requires { 20 + 16 * j + 16 ≤ length a.now }
     ensures { result ≡ has_pair (frame_at a.now) bench number j }

@@ -7,12 +7,14 @@ ghost use Rattle.archive.specs.Sound.{count_of, entry_of, good_bench, good_shown
 use crate::numbers::{Entry, Header, read_entry, read_header};
 use crate::unique::all_fresh;
 
+#[tactic(auto, unfolding(crate::specs::Sound::good_bench))]
 pub(crate) fn good_bench(n: u32) -> bool
     ensures { result ≡ good_bench n }
 {
     1 <= n && n <= 65535
 }
 
+#[tactic(auto, unfolding(crate::specs::Sound::good_shown))]
 pub(crate) fn good_shown(n: u32) -> bool
     ensures { result ≡ good_shown n }
 {
@@ -20,6 +22,7 @@ pub(crate) fn good_shown(n: u32) -> bool
 }
 
 // The numbers of the header, by the length of the archive.
+#[tactic(auto, unfolding(crate::specs::Sound::header_good))]
 fn header_good(h: Header, size: usize) -> bool
     ensures { result ≡ header_good h size }
 {
@@ -41,6 +44,7 @@ fn header_good(h: Header, size: usize) -> bool
     size == 20 + 23056 * h.count as usize
 }
 
+#[tactic(auto, using(crate::proofs::Tests::too_short), unfolding(crate::specs::Sound::header_sound))]
 pub(crate) fn header_sound(a: &[u8]) -> bool
     ensures { result ≡ header_sound a.now }
 {
@@ -51,6 +55,7 @@ pub(crate) fn header_sound(a: &[u8]) -> bool
 }
 
 // The numbers of an entry, by the offset that its picture must have.
+#[tactic(auto, unfolding(crate::specs::Sound::entry_good))]
 fn entry_good(e: Entry, offset: usize) -> bool
     ensures { result ≡ entry_good e offset }
 {

@@ -1,6 +1,6 @@
 -- How `archive_add` puts the next archive down, for its own functions: header and entries, the old pictures, the new one. What the next
 -- archive is, `Adding.antt` says.
-use Rattle.std.specs.Prelude.{ℕ, ◌+◌, ◌-◌, ◌*◌, List, ◌++◌, take}
+use Rattle.std.specs.Prelude.{ℕ, ◌+◌, ◌-◌, List, ◌++◌, take}
 use Rattle.byte_rows.specs.Rows.{rows, zeros}
 use Rattle.archive.specs.Format.{entry, header, picture_offset}
 use Rattle.archive.specs.Sound.{bench_at, number_at, shown_at}

@@ -1,5 +1,6 @@
 // Archives written in lent room: the archive of no frames, and the next one with a frame more.
 #![tactic(auto)]
+
 ghost use Rattle.std.specs.Prelude.{◌-◌, ◌/◌, ◌≤◌, ◌≡◌, length};
 ghost use Rattle.archive.specs.Sound.{count_of};
 ghost use Rattle.archive_add.specs.Adding.{length_or, start_refusal, start_room, next_length, room_for, add_refusal, add_room};
@@ -42,6 +43,7 @@ fn frames_in(size: usize) -> usize
 }
 
 // Whether an archive of n has a next, and it fits the room.
+#[tactic(auto, unfolding(crate::specs::Adding::room_for, crate::specs::Adding::next_length))]
 fn has_room(n: usize, room: usize) -> bool
     ensures { result ≡ room_for n room }
 {

@@ -6,6 +6,7 @@ ghost use Rattle.byte_rows.specs.Rows.{put, zeros};
 ghost use Rattle.archive.specs.Format.{entry, header};
 
 // Puts the four bytes of a number at an index, low first.
+#[tactic(auto, using(byte_rows::proofs::Rows::put_four), unfolding(byte_rows::specs::Numbers::number4))]
 fn write4(out: &mut [u8], to: usize, n: u32)
     requires { to + 4 ≤ length out.old }
     ensures { out.new ≡ put out.old to (number4 n) }

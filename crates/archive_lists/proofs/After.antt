@@ -1,6 +1,6 @@
 -- Reading after adding: the theorem that specs/After.antt states.
 -- Assumes nothing.
-use Prim.Native.Nat.{ℕ, ◌+◌, ◌*◌, ◌/◌, ◌≤◌, ◌<◌}
+use Prim.Native.Nat.{ℕ, ◌+◌, ◌*◌, ◌<◌}
 use native.Mathlib.Omega.{arith}
 use mathlib.Core.Path.{◌≡◌, refl, sym, ap, ◌∙◌}
 use mathlib.Core.Bool.{true}
@@ -15,8 +15,8 @@ use Rattle.archive.proofs.Read.{sound_is, frames_count, frames_storable, only_ar
 use Rattle.archive.proofs.Written.{shown_most}
 use Rattle.archive_read.specs.Reading.{read_answer, read_picture}
 use Rattle.archive_add.specs.Adding.{frame_of}
-use Rattle.archive_add.proofs.Adding.{AddTaken, add_taken}
-use Rattle.archive_lists.specs.Lists.{Add, frame_added, refusal_of, next_archive, Gives, Bytes}
+use Rattle.archive_add.proofs.Adding.{add_taken}
+use Rattle.archive_lists.specs.Lists.{Add, frame_added, refusal_of, next_archive, Gives}
 use Rattle.archive_lists.specs.After.{ReadAfterAdd}
 use Rattle.archive_lists.proofs.Reading.{reads, reads_lines}
 use Rattle.archive_lists.proofs.Storing.{front_same}

@@ -8,7 +8,7 @@ use borrow.Author.Tests.{lt-ltb}
 use lib.ListN.{length}
 use Rattle.facts.specs.Lists.{in_room}
 use Rattle.archive.specs.Format.{Frame, frame_in, shown_of, archive_of}
-use Rattle.archive.specs.Sound.{entry_of, lines_at, storable}
+use Rattle.archive.specs.Sound.{entry_of, storable}
 use Rattle.archive.specs.Answers.{count_answer, entry_refusal, entry_answer}
 use Rattle.archive.proofs.Written.{few_of, good_in, archive_fields, archive_lines, written_sound, written_read}
 use Rattle.archive_read.specs.Reading.{read_answer, read_picture}

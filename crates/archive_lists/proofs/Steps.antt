@@ -1,16 +1,16 @@
 -- One call of `add` on the archive of a list that can be stored: when it is taken, what it leaves, and with which number it is refused.
 -- Assumes nothing.
-use Prim.Native.Nat.{ℕ, ◌+◌, ◌*◌, ◌≤◌, ◌<◌}
+use Prim.Native.Nat.{ℕ, ◌+◌, ◌*◌, ◌<◌}
 use native.Mathlib.Omega.{arith}
 use mathlib.Core.Path.{◌≡◌, refl, sym, ap, ◌∙◌}
-use mathlib.Core.Bool.{Bool, true, false, cond, ◌&&◌, true≢false}
+use mathlib.Core.Bool.{Bool, true, false, cond, ◌&&◌}
 use mathlib.Core.List.{List, [], ◌∷◌, ◌++◌}
 use borrow.Author.Tests.{eq-eqb, lt-ltb, le-leb}
-use lib.ListN.{length, take, length-append}
+use lib.ListN.{length, length-append}
 use lib.Seq.{take_at}
 use Rattle.facts.specs.Lists.{in_room}
 use Rattle.archive.specs.Format.{Frame, frame_in, archive_of}
-use Rattle.archive.specs.Sound.{count_of, good_bench, good_shown, is_new, storable}
+use Rattle.archive.specs.Sound.{is_new, storable}
 use Rattle.archive.specs.Answers.{good_fields}
 use Rattle.archive.proofs.Written.{shown_most, few_of, good_in, archive_length, written_sound, written_read}
 use Rattle.archive_add.specs.Adding.{length_or, start_refusal, start_room, frame_of, next_length, room_for, add_refusal, add_room}

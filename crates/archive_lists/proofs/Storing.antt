@@ -1,17 +1,17 @@
 -- Lists that can be stored: their fronts, and one frame more; and the archive of one.
 -- Assumes nothing.
-use Prim.Native.Nat.{ℕ, suc, ◌+◌, ◌-◌, ◌*◌, ◌≤◌, ◌<◌}
+use Prim.Native.Nat.{ℕ, ◌+◌, ◌*◌, ◌≤◌, ◌<◌}
 use native.Mathlib.Omega.{arith}
-use mathlib.Core.Path.{◌≡◌, refl, sym, ap, ◌∙◌}
+use mathlib.Core.Path.{◌≡◌, refl, sym, ◌∙◌}
 use mathlib.Core.Bool.{Bool, true, false, ◌&&◌, ◌||◌}
 use mathlib.Core.List.{List, [], ◌∷◌, ◌++◌}
-use borrow.Author.Tests.{eqb-true, eq-eqb, lt-ltb, le-leb}
+use borrow.Author.Tests.{eqb-true, lt-ltb, le-leb}
 use lib.Dec.{eqb, ltb}
 use lib.ListN.{length, take, length-append, get_or-append}
 use lib.Seq.{length-take-le, get_or_at}
 use Rattle.facts.specs.Tests.{every}
 use Rattle.facts.proofs.Bools.{both}
-use Rattle.facts.proofs.Tests.{below_all, below_more, below_agree}
+use Rattle.facts.proofs.Tests.{below_all, below_more}
 use Rattle.archive.specs.Format.{Frame, no_frame, frame_in, archive_of}
 use Rattle.archive.specs.Sound.{count_of, frame_at, good_bench, good_shown, is_new, fresh, frame_good, frame_storable, storable}
 use Rattle.archive_add.specs.Adding.{frame_of}

@@ -1,6 +1,6 @@
 -- What reading a frame answers and leaves, rung by rung.
 -- Assumes nothing.
-use Prim.Native.Nat.{ℕ, ◌+◌, ◌-◌, ◌*◌, ◌≤◌, ◌<◌}
+use Prim.Native.Nat.{ℕ, ◌+◌, ◌-◌, ◌*◌, ◌≤◌}
 use native.Mathlib.Omega.{arith}
 use mathlib.Core.Path.{◌≡◌, refl, sym, ap, ◌∙◌}
 use mathlib.Core.List.{List}
@@ -10,7 +10,7 @@ use Rattle.byte_rows.specs.Rows.{copied}
 use Rattle.byte_rows.proofs.Rows.{put_start, copied_fits}
 use Rattle.archive.specs.declared.EntryRead.{EntryRead}
 use Rattle.archive.specs.Format.{picture_offset}
-use Rattle.archive.specs.Sound.{count_of, entry_of, shown_at, lines_at}
+use Rattle.archive.specs.Sound.{entry_of, shown_at, lines_at}
 use Rattle.archive.specs.Answers.{no_entry, entry_answer}
 use Rattle.archive.proofs.Asking.{EntryGiven, entry_given}
 use Rattle.archive.proofs.Read.{sound_is, lines_length}

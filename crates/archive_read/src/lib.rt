@@ -1,5 +1,6 @@
 // Reading a frame of an archive into a lent picture.
 #![tactic(auto)]
+
 ghost use Rattle.std.specs.Prelude.{◌≡◌, length};
 ghost use Rattle.archive_read.specs.Reading.{read_answer, read_picture};
 

@@ -5,6 +5,7 @@ ghost use Rattle.board.specs.Clock.{frame, next_beam, scanned};
 use crate::record::Clock;
 
 // Scans in a frame.
+#[tactic(auto, unfolding(crate::specs::Clock::frame))]
 pub(crate) fn frame_scans(rate: u8) -> u16
     ensures { result ≡ frame rate }
 {
@@ -12,6 +13,7 @@ pub(crate) fn frame_scans(rate: u8) -> u16
 }
 
 // The next scan of a frame, from the last to 0.
+#[tactic(auto, unfolding(crate::specs::Clock::frame, crate::specs::Clock::next_beam))]
 fn next_beam(rate: u8, beam: u16) -> u16
     ensures { result ≡ next_beam rate beam }
 {
@@ -21,6 +23,7 @@ fn next_beam(rate: u8, beam: u16) -> u16
 
 impl Clock {
     // One scan on: the beam, and at a tick's beam the counter, which stays at 15.
+    #[tactic(auto, unfolding(crate::specs::Clock::scanned, crate::specs::Clock::ticks))]
     pub fn next(self, rate: u8) -> Clock
         ensures { result ≡ scanned rate self }
     {

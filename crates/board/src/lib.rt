@@ -1,5 +1,6 @@
 // The board: its record, whether that is good, and what a scan, a port and a store do to it, by value.
 #![tactic(auto)]
+
 mod clock;
 mod copies;
 mod methods;

@@ -20,6 +20,7 @@ impl Board {
     }
 
     // Command 1: as at power-on, but sizes, rate, maps, lock, F5, F6, beam, lines and dirty lines stay.
+    #[tactic(auto, unfolding(crate::specs::Registers::written, crate::specs::Registers::paging_out, crate::specs::Registers::video_out, crate::specs::Registers::control_commanded, crate::specs::Registers::clock_commanded, crate::specs::Registers::boot_commanded, crate::specs::Registers::disc_commanded, crate::specs::Registers::driven_commanded, crate::specs::Registers::bleeper_commanded))]
     fn reset(self) -> Board
         ensures { result ≡ written self 0xF8 1 }
     {
@@ -37,6 +38,7 @@ impl Board {
     }
 
     // A command of F8, 0 to 15.
+    #[tactic(auto, unfolding(crate::specs::Registers::written, crate::specs::Registers::paging_out, crate::specs::Registers::video_out, crate::specs::Registers::control_commanded, crate::specs::Registers::clock_commanded, crate::specs::Registers::boot_commanded, crate::specs::Registers::disc_commanded, crate::specs::Registers::driven_commanded, crate::specs::Registers::bleeper_commanded))]
     fn command(self, number: u8) -> Board
         requires { number < 16 }
         ensures { result ≡ written self 0xF8 number }
@@ -62,6 +64,7 @@ impl Board {
     }
 
     // A register or a command, by its port; any other port leaves the record.
+    #[tactic(auto, unfolding(crate::specs::Registers::written, crate::specs::Registers::paging_out, crate::specs::Registers::video_out))]
     fn write_port(self, port: u8, value: u8) -> Board
         ensures { result ≡ written self port value }
     {
@@ -109,6 +112,7 @@ impl Board {
     }
 
     // A write to a port, with the lines that it makes dirty, whatever the RAM holds.
+    #[tactic(auto, unfolding(crate::specs::Registers::written))]
     pub fn out(self, port: u8, value: u8) -> Board
         ensures { (ram : List ℕ) → result ≡ with_marks self ram (written self port value) ram }
     {

@@ -19,6 +19,7 @@ fn timing_in_range(b: Board) -> bool
     (b.rate == 60) & ((b.clock.beam < scans) & (words[3] < 256))
 }
 
+#[tactic(auto, unfolding(crate::specs::Ranges::numbers_in_range))]
 fn numbers_in_range(b: Board) -> bool
     ensures { result ≡ numbers_in_range b }
 {
@@ -27,6 +28,7 @@ fn numbers_in_range(b: Board) -> bool
             & ((b.disc.route <= 2) & !((b.disc.route == 1) & (b.disc.line == 1))))
 }
 
+#[tactic(auto, unfolding(crate::specs::Ranges::flags_in_range))]
 fn flags_in_range(b: Board) -> bool
     ensures { result ≡ flags_in_range b }
 {

@@ -1,5 +1,6 @@
 // Power-on.
 #![tactic(auto)]
+
 ghost use Rattle.std.specs.Prelude.{◌≡◌};
 ghost use Rattle.board_power.specs.Power.{zero_board, fresh_board, powered_on};
 
@@ -15,6 +16,7 @@ pub struct PowerOn {
     pub refusal: u8,
 }
 
+#[tactic(auto, unfolding(crate::specs::Power::zero_board))]
 fn zeros() -> Board
     ensures { result ≡ zero_board }
 {
@@ -54,6 +56,7 @@ fn zeros() -> Board
 }
 
 // The board as it starts.
+#[tactic(auto, unfolding(crate::specs::Power::fresh_board))]
 fn fresh(sizes: Sizes, rate: u8, paging: Paging, table: u8, top: u8) -> Board
     ensures { result ≡ fresh_board sizes rate paging table top }
 {
@@ -86,6 +89,7 @@ fn fresh(sizes: Sizes, rate: u8, paging: Paging, table: u8, top: u8) -> Board
 }
 
 // Refused with 6 for sizes that are not allowed or a rate other than 50 or 60.
+#[tactic(auto, unfolding(crate::specs::Power::powered_on, crate::specs::Power::power_on_refusal, board::specs::Record::good_rate))]
 pub fn power_on(sizes: Sizes, rate: u8, paging: Paging, table: u8, top: u8) -> PowerOn
     ensures { result ≡ powered_on sizes rate paging table top }
 {

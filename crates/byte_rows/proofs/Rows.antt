@@ -10,7 +10,7 @@ use mathlib.Core.List.{List, [], ◌∷◌, ◌++◌, append_assoc}
 use borrow.Author.Tests.{ltb-true, ltb-false, le-leb, lt-leb, leb-true, leb-false}
 use lib.Dec.{ltb, leb}
 use lib.ListN.{length, get_or, set, take, drop, length-append, length-drop}
-use lib.Seq.{paste, paste-zero, length-paste, paste-suc, sets-eq, take_at, drop_at, take-add, take-length, take_all, take-append_seam, drop-append-add, drop-drop, length-take-le, ext_get_or, get_or-take, get_or-drop}
+use lib.Seq.{paste, paste-zero, length-paste, paste-suc, sets-eq, take_at, drop_at, take-add, take-length, take_all, drop-append-add, drop-drop, length-take-le, ext_get_or, get_or-take, get_or-drop}
 use Rattle.facts.specs.Lists.{in_room}
 use Rattle.facts.proofs.Rooms.{room_step}
 use Rattle.byte_rows.specs.Rows.{rows, zeros, put, copied}

@@ -1,9 +1,11 @@
 // Bytes in lent memory.
 #![tactic(auto)]
+
 ghost use Rattle.std.specs.Prelude.{◌+◌, ◌≤◌, leb, length, ◌≡◌};
 ghost use Rattle.byte_rows.specs.Rows.{put, copied};
 
 // Whether n bytes from an index on lie inside a length.
+#[tactic(auto, using(crate::proofs::Rows::fits_not, crate::proofs::Rows::fits_test))]
 fn fits(to: usize, n: usize, size: usize) -> bool
     ensures { result ≡ leb (to + n) size }
 {
@@ -24,6 +26,7 @@ fn copy_all(src: &[u8], out: &mut [u8], to: usize)
 }
 
 // Copies a slice to an index of another; one that does not fit is not copied.
+#[tactic(auto, unfolding(crate::specs::Rows::copied))]
 pub fn copy(src: &[u8], out: &mut [u8], to: usize)
     ensures { out.new ≡ copied out.old to src.now }
 {

@@ -1,15 +1,13 @@
 -- The parts of an answer about an archive fit their places in a reply.
 -- Assumes nothing.
-use Prim.Native.Nat.{ℕ, ◌+◌, ◌*◌, ◌≤◌, ◌<◌}
+use Prim.Native.Nat.{ℕ, ◌+◌, ◌*◌, ◌≤◌}
 use native.Mathlib.Omega.{arith}
 use mathlib.Core.Path.{◌≡◌, refl, sym, ap, ◌∙◌}
 use mathlib.Core.Bool.{Bool, true, false, cond}
 use mathlib.Core.List.{List}
 use borrow.Author.Tests.{eqb-true, eq-eqb, ne_eqb}
 use lib.Dec.{eqb}
-use lib.ListN.{length}
 use Rattle.archive.specs.declared.EntryRead.{EntryRead}
-use Rattle.archive.specs.declared.search.Index.{Index}
 use Rattle.archive.specs.declared.search.Index.TheVariants.{At}
 use Rattle.archive.specs.declared.Found.{Found}
 use Rattle.archive.specs.Sound.{count_of, entry_of, bench_at}

@@ -1,16 +1,17 @@
 // By value, what the C interface gives for archives: packed numbers.
 #![tactic(auto)]
+
 ghost use Rattle.std.specs.Prelude.{◌≤◌, ◌≡◌, length};
 ghost use Rattle.archive.specs.Sound.{count_of};
 ghost use Rattle.archive.specs.Answers.{count_answer, entry_answer, find_answer};
 ghost use Rattle.archive_read.specs.Reading.{read_answer, read_picture};
 ghost use Rattle.archive_add.specs.Adding.{length_or, start_refusal, start_room, next_length, add_refusal, add_room};
-ghost use Rattle.c_archive.specs.Replies.{written_reply, count_reply, shown_code, entry_reply, find_reply};
-ghost use Rattle.c_archive.specs.Replies.{reply};
+ghost use Rattle.c_archive.specs.Replies.{reply, written_reply, count_reply, shown_code, entry_reply, find_reply};
 
 use archive::{EntryRead, Index};
 use archive_add::Written;
 
+#[tactic(auto, unfolding(crate::specs::Replies::reply))]
 fn reply(number: u64, refusal: u8, more: u64) -> u64
     requires { (number ≤ 4294967295) × (more ≤ 16777215) }
     ensures { result ≡ reply number refusal more }
@@ -18,6 +19,7 @@ fn reply(number: u64, refusal: u8, more: u64) -> u64
     number + (4294967296 * refusal as u64 + 1099511627776 * more)
 }
 
+#[tactic(auto, unfolding(crate::specs::Replies::written_reply))]
 fn written_reply(w: Written) -> u64
     requires { w.length ≤ 4294967295 }
     ensures { result ≡ written_reply w }
@@ -26,6 +28,7 @@ fn written_reply(w: Written) -> u64
 }
 
 // 1 for 200 shown lines, 2 for 256.
+#[tactic(auto, unfolding(crate::specs::Replies::shown_code))]
 fn shown_code(shown: u32) -> u64
     ensures { (result ≡ shown_code shown) × (result ≤ 2) }
 {
@@ -38,6 +41,7 @@ fn shown_code(shown: u32) -> u64
     0
 }
 
+#[tactic(auto, unfolding(crate::specs::Replies::entry_reply))]
 fn entry_read_reply(r: EntryRead) -> u64
     requires { r.entry.bench ≤ 65535 }
     ensures { result ≡ entry_reply r }
@@ -53,6 +57,7 @@ pub fn start_reply(room: &mut [u8]) -> u64
     written_reply(archive_add::start(room))
 }
 
+#[tactic(auto, unfolding(crate::specs::Replies::count_reply))]
 pub fn count_reply(a: &[u8]) -> u64
     ensures { result ≡ count_reply (count_answer a.now) }
 {

@@ -1,5 +1,6 @@
 // By value, what the C interface takes and gives: plain numbers in, the record and a packed number out.
 #![tactic(auto)]
+
 pub mod pictures;
 pub mod records;
 

@@ -10,6 +10,7 @@ use c_numbers::reply;
 use lineset::NextLine;
 use picture_compare::Position;
 
+#[tactic(auto, unfolding(crate::specs::Calls::draw_reply), using(facts::proofs::Bools::bool_byte_le))]
 pub fn draw_reply(b: Board, ram: &[u8], picture: &mut [u8]) -> u64
     ensures { (result ≡ draw_reply (draw_answer b ram.now picture.old)) × (picture.new ≡ draw_picture b ram.now picture.old) }
 {
@@ -18,6 +19,7 @@ pub fn draw_reply(b: Board, ram: &[u8], picture: &mut [u8]) -> u64
     reply(0, flags, d.refusal, 0)
 }
 
+#[tactic(auto, unfolding(crate::specs::Calls::refresh_reply), using(facts::proofs::Bools::bool_byte_le))]
 pub fn refresh_reply(b: Board, ram: &[u8], picture: &mut [u8]) -> Returned
     ensures { (result ≡ record { board = (refresh_answer b ram.now picture.old).board; word = refresh_reply (refresh_answer b ram.now picture.old) }) × (picture.new ≡ refresh_picture b ram.now picture.old) }
 {
@@ -38,6 +40,7 @@ fn at_most_256(n: u32) -> u16
     n as u16
 }
 
+#[tactic(auto, unfolding(crate::specs::Calls::next_reply, crate::specs::Calls::line_reply), using(crate::proofs::Calls::at_most))]
 pub fn next_dirty_reply(b: Board, n: u32) -> u64
     ensures { result ≡ next_reply (next_answer b n) }
 {
@@ -50,6 +53,7 @@ pub fn next_dirty_reply(b: Board, n: u32) -> u64
     }
 }
 
+#[tactic(auto, unfolding(crate::specs::Calls::difference_reply, crate::specs::Calls::position_reply))]
 pub fn first_difference_reply(a: &[u8], b: &[u8]) -> u64
     ensures { result ≡ difference_reply (difference_answer a.now b.now) }
 {

@@ -17,6 +17,7 @@ pub struct Returned {
 }
 
 // A step by its numbers.
+#[tactic(auto, unfolding(crate::specs::Calls::step_reply), using(facts::proofs::Bools::bool_byte_le))]
 pub fn step_reply(
     b: Board,
     kind: u32,
@@ -36,6 +37,7 @@ pub fn step_reply(
 }
 
 // Power-on in place of any record.
+#[tactic(auto, unfolding(crate::specs::Calls::power_on_reply))]
 pub fn power_on_reply(
     b: Board,
     internal: u8,

@@ -1,5 +1,6 @@
 // The numbers of the C interface: results packed in one number.
 #![tactic(auto)]
+
 mod packing;
 
 pub use packing::{make_pointer_reply, reach_reply, read_pointer_reply, reply};

@@ -7,6 +7,7 @@ ghost use Rattle.c_numbers.specs.Packing.{reply};
 use paging::{Paging, Sizes};
 use scanline::Pointer;
 
+#[tactic(auto, unfolding(crate::specs::Packing::reply))]
 pub fn reply(value: u16, flags: u8, refusal: u8, more: u16) -> u64
     ensures { result ≡ reply value flags refusal more }
 {
@@ -15,6 +16,7 @@ pub fn reply(value: u16, flags: u8, refusal: u8, more: u16) -> u64
 }
 
 // A pointer word read.
+#[tactic(auto, unfolding(crate::specs::Packing::pointer_reply))]
 pub fn read_pointer_reply(word: u16) -> u64
     ensures { result ≡ pointer_reply (pointer_of word) }
 {
@@ -23,6 +25,7 @@ pub fn read_pointer_reply(word: u16) -> u64
 }
 
 // A pointer word made; numbers wider than a block or a start are refused as those over 7 and 16,383 are.
+#[tactic(auto, unfolding(crate::specs::Packing::made_pointer_reply), using(scanline::proofs::Pointers::made_refused))]
 pub fn make_pointer_reply(block: u32, start: u32) -> u64
     ensures { result ≡ made_pointer_reply (made_pointer (record { block = block; start = start })) }
 {
@@ -41,6 +44,7 @@ pub fn make_pointer_reply(block: u32, start: u32) -> u64
 }
 
 // Where an access lands.
+#[tactic(auto, unfolding(crate::specs::Packing::reach_reply, paging::specs::Memory::reach_of))]
 pub fn reach_reply(
     internal: u8,
     total: u8,

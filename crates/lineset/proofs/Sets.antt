@@ -63,11 +63,14 @@ pub words_set : (p : ℕ → Bool) → Words (set_of p)
 words_set p = record { four = unfold set_of in refl; small = set_small p }
 
 -- no line over 255 is in a set
-pub member_out : (s : LineSet) → Words s → (L : ℕ) → 256 ≤ L → member s L ≡ false
+pub member_past : (s : LineSet) (L : ℕ) → length s.words ≡ 4 → 256 ≤ L → member s L ≡ false
 unfolding member
-member_out s ws L l =
-    ap (λ (w : ℕ). eqb (w / 2 ^ (L % 64) % 2) 1) (get_or-eq_default s.words 0 {n = L / 64} (omega (arith, ws.four)))
+member_past s L four l =
+    ap (λ (w : ℕ). eqb (w / 2 ^ (L % 64) % 2) 1) (get_or-eq_default s.words 0 {n = L / 64} (omega arith))
     ∙ ap (λ (w : ℕ). eqb (w % 2) 1) (zero-div (2 ^ (L % 64)))
+
+pub member_out : (s : LineSet) → Words s → (L : ℕ) → 256 ≤ L → member s L ≡ false
+member_out s ws L l = member_past s L ws.four l
 
 -- word j of a set is packed from its members
 pub word_members : (s : LineSet) → Words s → (j : ℕ) → packed (member s) (64 * j) 64 ≡ get_or s.words j 0

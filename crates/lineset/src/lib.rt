@@ -1,5 +1,6 @@
 // Sets of scan lines: 256 line numbers as four 64-bit words, line 0 in the lowest bit of the first.
 #![tactic(auto)]
+
 ghost use Rattle.std.specs.Prelude.{◌≡◌, false, ◌&&◌, ◌||◌, ℕ, ◌-◌};
 ghost use Rattle.lineset.specs.Lines.{member, set_of, count_of, first_of, shown_count, is_shown, shown_set};
 
@@ -17,6 +18,7 @@ pub enum NextLine {
 }
 
 // How many lines a frame rate shows: 256 at 50 Hz, 200 at 60 Hz, none at any other rate.
+#[tactic(auto, unfolding(crate::specs::Lines::shown_count))]
 pub fn shown_count(rate: u8) -> u16
     ensures { result ≡ shown_count rate }
 {
@@ -65,6 +67,7 @@ impl LineSet {
         LineSet { words: [0; 4] }
     }
 
+    #[tactic(auto, using(crate::proofs::Sets::member_past))]
     pub fn contains(self, line: u16) -> bool
         ensures { result ≡ member self line }
     {
@@ -121,6 +124,7 @@ impl LineSet {
     }
 
     // The first line of the set at or after n; nothing for n over 255.
+    #[tactic(auto, using(crate::proofs::Operations::first_empty))]
     pub fn next(self, n: u16) -> NextLine
         ensures { result ≡ first_of (member self) n (256 - n) }
     {

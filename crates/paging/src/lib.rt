@@ -1,5 +1,6 @@
 // Memory sizes, map bytes and the lock: which 16K block and place an access reaches, and where that lies in the RAM.
 #![tactic(auto)]
+
 ghost use Rattle.std.specs.Prelude.{◌≡◌, get_or};
 ghost use Rattle.paging.specs.Maps.{ram_fits, map_read, map_write};
 ghost use Rattle.paging.specs.Maps.{allowed, expansion};
@@ -31,6 +32,7 @@ pub struct Reach {
 }
 
 impl Sizes {
+    #[tactic(auto, unfolding(crate::specs::Maps::allowed))]
     pub fn allowed(self) -> bool
         ensures { result ≡ allowed self }
     {
@@ -42,6 +44,7 @@ impl Sizes {
     }
 
     // Whether a RAM of so many bytes is of these sizes.
+    #[tactic(auto, unfolding(crate::specs::Maps::ram_fits))]
     pub fn ram_fits(self, length: usize) -> bool
         ensures { result ≡ ram_fits self length }
     {
@@ -50,6 +53,7 @@ impl Sizes {
 }
 
 // The block of a map byte with D7 set; with no internal memory there is none to take its place.
+#[tactic(auto, unfolding(crate::specs::Maps::expansion))]
 fn expansion(sizes: Sizes, map: u8) -> u8
     ensures { result ≡ expansion sizes map }
 {
@@ -63,6 +67,7 @@ fn expansion(sizes: Sizes, map: u8) -> u8
     e % sizes.internal
 }
 
+#[tactic(auto, unfolding(crate::specs::Maps::map_write))]
 pub fn map_write(sizes: Sizes, map: u8) -> u8
     ensures { result ≡ map_write sizes map }
 {
@@ -72,6 +77,7 @@ pub fn map_write(sizes: Sizes, map: u8) -> u8
     expansion(sizes, map)
 }
 
+#[tactic(auto, unfolding(crate::specs::Maps::map_read))]
 pub fn map_read(sizes: Sizes, locked: bool, map: u8) -> u8
     ensures { result ≡ map_read sizes locked map }
 {
@@ -81,6 +87,7 @@ pub fn map_read(sizes: Sizes, locked: bool, map: u8) -> u8
     if locked { map % 8 } else { map / 16 % 8 }
 }
 
+#[tactic(auto, unfolding(crate::specs::Memory::bank_of))]
 fn bank(address: u16) -> u8
     ensures { result ≡ bank_of address }
 {
@@ -88,6 +95,7 @@ fn bank(address: u16) -> u8
 }
 
 // The lock bit of a bank: D7 bank C000h, D6 0000h, D5 8000h, D4 4000h.
+#[tactic(auto, unfolding(crate::specs::Memory::locked, crate::specs::Memory::lock_weight))]
 fn locked(lock: u8, bank: u8) -> bool
     ensures { result ≡ locked lock bank }
 {
@@ -101,6 +109,7 @@ fn locked(lock: u8, bank: u8) -> bool
 }
 
 impl Paging {
+    #[tactic(auto, unfolding(crate::specs::Memory::read_block, crate::specs::Memory::bank_of))]
     fn read_block(self, sizes: Sizes, address: u16) -> u8
         ensures { result ≡ read_block sizes self address }
     {
@@ -109,6 +118,7 @@ impl Paging {
         map_read(sizes, locked(self.lock, b), self.maps[at])
     }
 
+    #[tactic(auto, unfolding(crate::specs::Memory::write_block, crate::specs::Memory::bank_of))]
     fn write_block(self, sizes: Sizes, address: u16) -> u8
         ensures { result ≡ write_block sizes self address }
     {
@@ -116,6 +126,7 @@ impl Paging {
         map_write(sizes, self.maps[at])
     }
 
+    #[tactic(auto, unfolding(crate::specs::Memory::reach_of, crate::specs::Memory::place_of))]
     pub fn reach(self, sizes: Sizes, address: u16) -> Reach
         ensures { result ≡ reach_of sizes self address }
     {
@@ -135,6 +146,7 @@ pub fn index(block: u8, place: u16) -> usize
 }
 
 // The index of a keyboard byte.
+#[tactic(auto, unfolding(crate::specs::Memory::keyboard_index))]
 pub fn keyboard_index(offset: u8) -> usize
     ensures { result ≡ keyboard_index offset }
 {

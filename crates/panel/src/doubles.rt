@@ -29,6 +29,7 @@ const DOUBLED: [u16; 256] = [
 ];
 
 // The table, whose rule is checked here, once, over all entries. Made once for a whole line.
+#[tactic(auto, unfolding(crate::specs::Widen::pixel_of, crate::specs::Widen::digits, crate::specs::Widen::byte_of, crate::specs::Widen::doubled_byte, crate::specs::Widen::doubled_pair, crate::specs::Widen::tabulate))]
 pub(crate) fn doubled_table() -> [u16; 256]
     ensures { result ≡ tabulate doubled_pair 0 256 }
 {
@@ -36,6 +37,7 @@ pub(crate) fn doubled_table() -> [u16; 256]
 }
 
 // A byte's pixels, each twice.
+#[tactic(auto, unfolding(crate::specs::Widen::doubled_pair), using(crate::proofs::Table::entry))]
 pub fn doubled(byte: u8) -> u16
     ensures { result ≡ doubled_byte byte 0 * 256 + doubled_byte byte 1 }
 {

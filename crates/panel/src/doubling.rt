@@ -5,6 +5,7 @@ ghost use Rattle.panel.specs.Widen.{doubled_pair, tabulate, widened_at, widened,
 use crate::doubles::doubled_table;
 
 // Writes the two bytes of byte i of a line.
+#[tactic(auto, using(crate::proofs::Widening::pair_bytes))]
 fn put(line: &[u8], out: &mut [u8], table: &[u16; 256], i: usize)
     requires { (i < 90) × (length line.now ≡ 90) × (length out.old ≡ 180) × (table.now ≡ tabulate doubled_pair 0 256) }
     ensures { out.new ≡ set (set out.old (2 * i) (widened_at line.now (2 * i))) (2 * i + 1) (widened_at line.now (2 * i + 1)) }
@@ -26,6 +27,7 @@ fn put_three(line: &[u8], out: &mut [u8], table: &[u16; 256], i: usize)
 
 // Writes the wide line, nine bytes of the line a turn. The caller has seen that the lengths are right, and lends the
 // table, made once a line.
+#[tactic(auto, using(crate::proofs::Widening::filled_all), unfolding(facts::proofs::Filled::Filled))]
 fn fill(line: &[u8], out: &mut [u8], table: &[u16; 256])
     requires { (length line.now ≡ 90) × (length out.old ≡ 180) × (table.now ≡ tabulate doubled_pair 0 256) }
     ensures { out.new ≡ widened line.now }
@@ -38,6 +40,7 @@ fn fill(line: &[u8], out: &mut [u8], table: &[u16; 256])
 }
 
 // Widens one line: 0, or 2 with nothing written where a length is wrong.
+#[tactic(auto, unfolding(crate::specs::Widen::widen_fits, crate::specs::Widen::widen_refusal, crate::specs::Widen::widened_out))]
 pub fn widen(line: &[u8], out: &mut [u8]) -> u8
     ensures value { result ≡ widen_refusal (length line.now) (length out.old) }
     ensures out_after { out.new ≡ widened_out line.now out.old }

@@ -1,5 +1,6 @@
 // What the 1,440-wide panel needs: a line with each pixel twice.
 #![tactic(auto)]
+
 mod doubles;
 mod doubling;
 

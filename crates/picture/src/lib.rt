@@ -1,5 +1,6 @@
 // The picture: drawing and refreshing it, and the next dirty line.
 #![tactic(auto)]
+
 ghost use Rattle.std.specs.Prelude.{◌≡◌};
 ghost use Rattle.picture.specs.Pictures.{picture_refusal, is_floating, draw_answer, draw_picture, refresh_answer, refresh_picture, next_answer};
 
@@ -33,6 +34,7 @@ pub struct NextDirty {
 }
 
 // The refusal number or 0, by the lengths of the RAM and of the picture.
+#[tactic(auto, unfolding(crate::specs::Pictures::picture_refusal, crate::specs::Pictures::picture_length_refusal, scanline::specs::Drawing::picture_fits, board::specs::Record::record_refusal, board::specs::Record::first_refusal))]
 fn picture_refusal(b: Board, ram: usize, picture: usize) -> u8
     ensures { result ≡ picture_refusal b ram picture }
 {
@@ -47,6 +49,7 @@ fn picture_refusal(b: Board, ram: usize, picture: usize) -> u8
     }
 }
 
+#[tactic(auto, unfolding(crate::specs::Pictures::is_floating))]
 fn is_floating(b: Board) -> bool
     ensures { result ≡ is_floating b }
 {
@@ -54,6 +57,7 @@ fn is_floating(b: Board) -> bool
 }
 
 // Draws every shown line.
+#[tactic(auto, using(crate::proofs::Answers::accepted, lineset::proofs::Shown::shown_at_most))]
 pub fn draw(b: Board, ram: &[u8], picture: &mut [u8]) -> Drawn
     ensures { (result ≡ draw_answer b ram.now picture.old) × (picture.new ≡ draw_picture b ram.now picture.old) }
 {
@@ -73,6 +77,7 @@ pub fn draw(b: Board, ram: &[u8], picture: &mut [u8]) -> Drawn
 }
 
 // Draws every dirty line.
+#[tactic(auto, using(crate::proofs::Answers::accepted))]
 pub fn refresh(b: Board, ram: &[u8], picture: &mut [u8]) -> Refreshed
     ensures { (result ≡ refresh_answer b ram.now picture.old) × (picture.new ≡ refresh_picture b ram.now picture.old) }
 {
@@ -99,6 +104,7 @@ pub fn refresh(b: Board, ram: &[u8], picture: &mut [u8]) -> Refreshed
 }
 
 // The first dirty line at or after n.
+#[tactic(auto, unfolding(crate::specs::Pictures::next_answer, crate::specs::Pictures::next_refusal, board::specs::Record::record_refusal, board::specs::Record::first_refusal))]
 pub fn next_dirty(b: Board, n: u16) -> NextDirty
     ensures { result ≡ next_answer b n }
 {

@@ -7,6 +7,7 @@ use lineset::{LineSet, NextLine};
 use scanline::Video;
 
 // One line, straight into its 90 bytes of the picture. Every index that a pointer names lies in standard RAM.
+#[tactic(auto, using(facts::proofs::Overlaid::overlaid_length, facts::proofs::Overlaid::overlaid_start, facts::proofs::Overlaid::overlaid_next, scanline::proofs::Pixels::pixel_index_lt, crate::proofs::Painting::line_byte_lem))]
 fn paint_line(video: Video, ram: &[u8], line: u8, picture: &mut [u8])
     requires { (131072 ≤ length ram.now) × (length picture.old ≡ 23040) }
     ensures { picture.new ≡ painted (λ (L : ℕ). eqb L line) (record { video = video; ram = ram.now }) picture.old }
@@ -24,6 +25,7 @@ fn paint_line(video: Video, ram: &[u8], line: u8, picture: &mut [u8])
 }
 
 // The lines from 0 to before `end`.
+#[tactic(auto, using(crate::proofs::Painting::painted_length))]
 pub(crate) fn paint_first(video: Video, ram: &[u8], end: u16, picture: &mut [u8])
     requires { (131072 ≤ length ram.now) × ((length picture.old ≡ 23040) × (end ≤ 256)) }
     ensures { picture.new ≡ painted (λ (L : ℕ). ltb L end) (record { video = video; ram = ram.now }) picture.old }
@@ -36,6 +38,7 @@ pub(crate) fn paint_first(video: Video, ram: &[u8], end: u16, picture: &mut [u8]
 }
 
 // The lines of a set, found one after the other.
+#[tactic(auto, using(crate::proofs::Painting::painted_length, crate::proofs::Painting::passed_start, lineset::proofs::Search::found_at))]
 pub(crate) fn paint_set(video: Video, ram: &[u8], lines: LineSet, picture: &mut [u8])
     requires { (131072 ≤ length ram.now) × (length picture.old ≡ 23040) }
     ensures { picture.new ≡ painted (member lines) (record { video = video; ram = ram.now }) picture.old }

@@ -1,5 +1,6 @@
 // The first place where two pictures differ.
 #![tactic(auto)]
+
 ghost use Rattle.std.specs.Prelude.{◌≡◌, true, ℕ, ◌+◌, ◌≤◌, ◌<◌, length};
 ghost use Rattle.panel.specs.Widen.{pixel_of};
 ghost use Rattle.picture_compare.specs.Differences.{AlikeFrom, first_difference, difference_answer};
@@ -18,6 +19,7 @@ pub struct Difference {
 }
 
 // The leftmost pixel in which two unequal bytes differ.
+#[tactic(auto, unfolding(panel::specs::Widen::pixel_of), using(crate::proofs::Differences::pixels_start, crate::proofs::Differences::pixels_next, crate::proofs::Differences::pixels_before, crate::proofs::Differences::last_pixel))]
 fn unequal_pixel(x: u8, y: u8) -> u16
     requires { x ≡ y → ⊥ }
     ensures { (result < 8) × (((k : ℕ) → k < result → pixel_of x k ≡ pixel_of y k) × (pixel_of x result ≡ pixel_of y result → ⊥)) }
@@ -34,6 +36,7 @@ fn unequal_pixel(x: u8, y: u8) -> u16
 
 // Whether eight lines from a byte on are equal. It is not left early, so that a run takes many bytes at once: 16 of them fit into
 // eight lines without rest.
+#[tactic(auto, using(crate::proofs::Differences::from_next))]
 fn same_lines(a: &[u8], b: &[u8], first: usize) -> bool
     requires { (first + 720 ≤ length a.now) × (first + 720 ≤ length b.now) }
     ensures { result ≡ true → AlikeFrom a.now b.now first 720 }
@@ -49,6 +52,7 @@ fn same_lines(a: &[u8], b: &[u8], first: usize) -> bool
 }
 
 // Lines outside, bytes inside; the search is left at the first unequal byte. Eight lines that are the same are passed over at once.
+#[tactic(auto, using(crate::proofs::Differences::alike_none, crate::proofs::Differences::alike_next, crate::proofs::Differences::alike_line, crate::proofs::Differences::alike_eight, crate::proofs::Differences::position_same))]
 fn unequal_position(a: &[u8], b: &[u8]) -> Position
     requires { (length a.now ≡ 23040) × (length b.now ≡ 23040) }
     ensures { result ≡ first_difference a.now b.now }
@@ -81,6 +85,7 @@ fn unequal_position(a: &[u8], b: &[u8]) -> Position
 }
 
 // The first place where two pictures differ.
+#[tactic(auto, unfolding(crate::specs::Differences::difference_answer, scanline::specs::Drawing::picture_fits))]
 pub fn first_difference(a: &[u8], b: &[u8]) -> Difference
     ensures { result ≡ difference_answer a.now b.now }
 {

@@ -1,5 +1,6 @@
 // The reach list: a line of text for each group of 9 bytes.
 #![tactic(auto)]
+
 ghost use Rattle.std.specs.Prelude.{◌+◌, ◌*◌, ◌≤◌, ◌≡◌, ◌++◌, length, take, drop};
 ghost use Rattle.std.proofs.Math.Seq.{paste};
 ghost use Rattle.facts.specs.Lists.{in_room};
@@ -24,6 +25,7 @@ struct Line {
 }
 
 // The last hex digit of a number, in upper case.
+#[tactic(auto, unfolding(crate::specs::Text::hex_digit))]
 fn digit(n: u16) -> u8
     ensures { result ≡ hex_digit n }
 {
@@ -31,6 +33,7 @@ fn digit(n: u16) -> u8
     if d < 10 { b'0' + d } else { b'A' + (d - 10) }
 }
 
+#[tactic(auto, unfolding(crate::specs::Text::refusal_line))]
 fn refusal_line(number: u8) -> Line
     requires { number ≤ 9 }
     ensures bytes_value { take result.used result.bytes ≡ refusal_line number }
@@ -44,6 +47,7 @@ fn refusal_line(number: u8) -> Line
     Line { bytes, used: 4 }
 }
 
+#[tactic(auto, unfolding(paging::specs::Memory::reach_of, crate::specs::Text::reach_line, crate::specs::Text::hex2, crate::specs::Text::hex4))]
 fn reach_line(sizes: Sizes, paging: Paging, address: u16) -> Line
     ensures bytes_value { take result.used result.bytes ≡ reach_line sizes paging address }
     ensures used_bound { result.used ≤ 20 }
@@ -90,6 +94,7 @@ fn word(low: u8, high: u8) -> u16
 }
 
 // The line of a whole group.
+#[tactic(auto, unfolding(crate::specs::Text::whole_line, crate::specs::Text::sizes_of, crate::specs::Text::paging_of, crate::specs::Text::address_of))]
 fn whole_line(g: &[u8]) -> Line
     requires { 9 ≤ length g.now }
     ensures bytes_value { take result.used result.bytes ≡ whole_line g.now }
@@ -110,6 +115,7 @@ fn whole_line(g: &[u8]) -> Line
 }
 
 // The line of the group that starts at an index.
+#[tactic(auto, using(crate::proofs::Laws::group_short, crate::proofs::Laws::group_whole))]
 fn group_line(input: &[u8], at: usize) -> Line
     requires { at ≤ length input.now }
     ensures bytes_value { take result.used result.bytes ≡ group_line (take 9 (drop at input.now)) }
@@ -122,6 +128,7 @@ fn group_line(input: &[u8], at: usize) -> Line
     whole_line(&input[at..end])
 }
 
+#[tactic(auto, using(std::proofs::lemmas::List::Edits::paste_more, std::proofs::lemmas::List::Edits::paste_none))]
 fn copy(src: &[u8], out: &mut [u8], to: usize, n: usize)
     requires n_in_bounds { n ≤ length src.now }
     requires n_in_bounds_2 { to + n ≤ length out.old }
@@ -133,6 +140,7 @@ fn copy(src: &[u8], out: &mut [u8], to: usize, n: usize)
 }
 
 // Puts the line of the group that starts at `at` into `out` from `to` on, and gives the index past it.
+#[tactic(auto, using(crate::proofs::Laws::used_length, crate::proofs::Laws::pasted))]
 fn put_line(input: &[u8], at: usize, out: &mut [u8], to: usize) -> usize
     requires at_in_bounds { at ≤ length input.now }
     requires to_in_bounds { to + 20 ≤ length out.old }
@@ -147,12 +155,14 @@ fn put_line(input: &[u8], at: usize, out: &mut [u8], to: usize) -> usize
 }
 
 // How many groups there are, a short last one among them.
+#[tactic(auto, unfolding(crate::specs::Text::groups))]
 fn count(input: &[u8]) -> usize
     ensures { result ≡ groups (length input.now) }
 {
     (input.len() + 8) / 9
 }
 
+#[tactic(auto, using(crate::proofs::Laws::room, crate::proofs::Laws::text_length, facts::proofs::Rooms::room_length), unfolding(crate::specs::Text::reach_text, crate::specs::Text::groups))]
 fn fill(input: &[u8], out: &mut [u8]) -> usize
     requires { 20 * groups (length input.now) ≤ length out.old }
     ensures value { result ≡ length (reach_text input.now) }
@@ -167,6 +177,7 @@ fn fill(input: &[u8], out: &mut [u8]) -> usize
 }
 
 // Writes the text of `input` to the start of `out`, which must have 20 bytes for each group.
+#[tactic(auto, using(crate::proofs::Laws::refused, crate::proofs::Laws::accepted))]
 pub fn list(input: &[u8], out: &mut [u8]) -> Listed
     ensures value { result ≡ listed input.now (length out.old) }
     ensures out_after { out.new ≡ listed_out input.now out.old }

@@ -1,5 +1,6 @@
 // Scan lines: the pointer table and its words, read and made; a line's pixels, the drawn byte, and the video registers.
 #![tactic(auto)]
+
 ghost use Rattle.std.specs.Prelude.{◌≡◌, ◌+◌, ◌*◌};
 ghost use Rattle.scanline.specs.Pointers.{table_index, entry_of, entry_index, pointer_word, pointer_of, made_pointer};
 ghost use Rattle.scanline.specs.Drawing.{pixel_index, drawn_byte, video_differs};
@@ -28,6 +29,7 @@ pub struct MadePointer {
 }
 
 // The index of the pointer table that F5 names.
+#[tactic(auto, unfolding(crate::specs::Pointers::table_index))]
 pub fn table_index(table: u8) -> usize
     ensures { result ≡ table_index table }
 {
@@ -35,6 +37,7 @@ pub fn table_index(table: u8) -> usize
 }
 
 // The table entry of a line, from F6.
+#[tactic(auto, unfolding(crate::specs::Pointers::entry_of))]
 pub fn entry(top: u8, line: u8) -> u8
     ensures { result ≡ entry_of top line }
 {
@@ -42,6 +45,7 @@ pub fn entry(top: u8, line: u8) -> u8
 }
 
 // The index of a line's table entry.
+#[tactic(auto, using(crate::proofs::Pointers::table_index_lem), unfolding(crate::specs::Pointers::entry_index))]
 pub fn entry_index(table: u8, top: u8, line: u8) -> usize
     ensures { result ≡ entry_index table top line }
 {
@@ -56,6 +60,7 @@ fn word(low: u8, high: u8) -> u16
 }
 
 // The pointer word of a line; a byte past the RAM's end counts as 0. A RAM of eight blocks or more holds every entry.
+#[tactic(auto, using(crate::proofs::Pointers::entry_index_lt), unfolding(crate::specs::Pointers::pointer_word))]
 pub fn pointer_word(ram: &[u8], table: u8, top: u8, line: u8) -> u16
     ensures { result ≡ pointer_word ram.now table top line }
 {
@@ -66,6 +71,7 @@ pub fn pointer_word(ram: &[u8], table: u8, top: u8, line: u8) -> u16
     word(ram[at], ram[at + 1])
 }
 
+#[tactic(auto, unfolding(crate::specs::Pointers::pointer_of))]
 pub fn read_pointer(word: u16) -> Pointer
     ensures { result ≡ pointer_of word }
 {
@@ -75,6 +81,7 @@ pub fn read_pointer(word: u16) -> Pointer
     }
 }
 
+#[tactic(auto, unfolding(crate::specs::Pointers::made_pointer, crate::specs::Pointers::pointer_refusal, crate::specs::Pointers::word_of))]
 pub fn make_pointer(p: Pointer) -> MadePointer
     ensures { result ≡ made_pointer p }
 {
@@ -91,6 +98,7 @@ pub fn make_pointer(p: Pointer) -> MadePointer
 }
 
 // The index of pixel byte i of a line, which runs on from block to block, and from block 7 into block 0.
+#[tactic(auto, unfolding(crate::specs::Drawing::pixel_index))]
 pub fn pixel_index(p: Pointer, i: u8) -> usize
     ensures { result ≡ pixel_index p i }
 {
@@ -99,6 +107,7 @@ pub fn pixel_index(p: Pointer, i: u8) -> usize
 }
 
 // A RAM byte as F7 has it drawn.
+#[tactic(auto, unfolding(crate::specs::Drawing::drawn_byte))]
 pub fn drawn_byte(control: u8, byte: u8) -> u8
     ensures { result ≡ drawn_byte control byte }
 {
@@ -111,6 +120,7 @@ pub fn drawn_byte(control: u8, byte: u8) -> u8
 }
 
 // Whether F5, F6, or D7 or D6 of F7 differ.
+#[tactic(auto, unfolding(crate::specs::Drawing::video_differs))]
 pub fn video_differs(v: Video, w: Video) -> bool
     ensures { result ≡ video_differs v w }
 {

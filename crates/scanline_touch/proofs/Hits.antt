@@ -11,13 +11,14 @@ use lib.ListN.{length, get_or, set}
 use lib.Pow.{pow-add, pow_mono}
 use lib.Seq.{get_or-set_same, get_or-set_other}
 use mir.Val.{bool_byte}
-use Rattle.lineset.specs.Lines.{packed}
+use Rattle.lineset.specs.Lines.{packed, set_of}
 use Rattle.facts.proofs.Bools.{bool_byte_lt}
 use Rattle.scanline.specs.Pointers.{entry_of, entry_index, pointer_word}
 use Rattle.scanline.proofs.Pointers.{table_index_lem}
 use Rattle.scanline.specs.Drawing.{pixel_touched, touches}
 use Rattle.lineset.proofs.Packed.{packed_add, packed_moved}
-use Rattle.scanline.proofs.Touches.{touches_pointer, touches_other}
+use Rattle.lineset.proofs.Sets.{set_agree}
+use Rattle.scanline.proofs.Touches.{touches_pointer, touches_other, touches_past}
 
 -- ---- hits packed
 
@@ -77,10 +78,6 @@ fours_end p i m z h =
 
 -- ---- the entries of the table, in quarters of 64
 
--- the hit of entry k of a quarter: whether an index is among its pixel bytes
-unfoldable pub hit_of : List ℕ → ℕ → ℕ → ℕ → ℕ → ℕ
-hit_of ram table quarter at k = bool_byte (pixel_touched (pointer_word ram table 0 (64 * quarter + k)) at)
-
 entry_half : (table j : ℕ) → entry_index table 0 j / 2 ≡ 256 * table + j % 256
 unfolding entry_index entry_of
 entry_half table j = omega (arith, table_index_lem table)
@@ -128,6 +125,10 @@ entry_round table n k = omega arith
 entry_top : (table top line : ℕ) → entry_index table top line ≡ entry_index table 0 (top + line)
 unfolding entry_index entry_of
 entry_top table top line = omega arith
+
+-- past standard RAM no line is touched
+pub none_past : (ram : List ℕ) (table top at : ℕ) → 131072 ≤ at → table < 256 → set_of (touches ram table top at) ≡ set_of (λ (L : ℕ). false)
+none_past ram table top at h t = set_agree _ _ (λ L l. touches_past ram table top at L h t)
 
 module _ (ram : List ℕ) (table at : ℕ) where
   touches_round : (n k : ℕ) → touches ram table 0 at k ≡ touches ram table 0 at (256 * n + k)

@@ -1,5 +1,6 @@
 // The lines that a store touches. The table's entries are tested in four quarters, so that 64 bytes of stack serve for all 256.
 #![tactic(auto)]
+
 ghost use Rattle.std.specs.Prelude.{◌≡◌, ℕ, ◌+◌, ◌*◌, ◌≤◌, ◌<◌, Bool, length, get_or};
 ghost use mir.Val.{bool_byte};
 ghost use Rattle.lineset.specs.Lines.{set_of, packed};
@@ -12,6 +13,7 @@ use scanline::pointer_word;
 // Whether an index is one of the 90 pixel bytes that a pointer word names: it has the same place in its eight bytes as the
 // line's start, and the way from there, in eights and round the 131,072 bytes of standard RAM, is below 90. A word leaves
 // out bit 3 of the start, so its eight is twice the word's. No branch, and 16 bits, since it is asked of every line.
+#[tactic(auto, using(scanline::proofs::Pixels::word_touched))]
 fn pixel_hit(word: u16, at: usize) -> bool
     requires { at < 131072 }
     ensures { result ≡ pixel_touched word at }
@@ -34,6 +36,7 @@ fn hit_pixels(ram: &[u8], table: u8, quarter: usize, at: usize, hits: &mut [u8])
 }
 
 // A hit for each of them that has an index among its pixel bytes or its two pointer bytes.
+#[tactic(auto, using(crate::proofs::Hits::within, crate::proofs::Hits::outside))]
 fn hit_entries(ram: &[u8], table: u8, quarter: usize, at: usize, hits: &mut [u8])
     requires { (at < 131072) × (quarter < 4) × (length hits.old ≡ 64) }
     ensures { (j : ℕ) → j < 64 → get_or hits.new j 0 ≡ bool_byte (touches ram.now table 0 at (64 * quarter + j)) }
@@ -46,6 +49,7 @@ fn hit_entries(ram: &[u8], table: u8, quarter: usize, at: usize, hits: &mut [u8]
 
 // Four hits as a number, the first in the lowest digit. Their bytes make one number; moved up by 21, 14, 7 and 0 digits and added up,
 // in one product, the four stand side by side as its digits 21 to 24, and no two fall on one digit.
+#[tactic(auto, using(crate::proofs::Hits::hits_four))]
 fn four_hits(hits: &[u8], i: usize) -> u64
     requires { i + 4 ≤ length hits.now }
     ensures upper_bound { result < 16 }
@@ -73,6 +77,7 @@ fn hit_word(hits: &[u8]) -> u64
 }
 
 // A quarter of the table's entries as a word: those that another byte at an index alters.
+#[tactic(auto, using(crate::proofs::Hits::quarter_word))]
 fn entries_word(ram: &[u8], table: u8, quarter: usize, at: usize) -> u64
     requires { (at < 131072) × (quarter < 4) }
     ensures { result ≡ packed (touches ram.now table 0 at) (64 * quarter) 64 }
@@ -83,6 +88,7 @@ fn entries_word(ram: &[u8], table: u8, quarter: usize, at: usize) -> u64
 }
 
 // Of two words, one behind the other, the 64 digits from a digit of the first on.
+#[tactic(auto, using(lineset::proofs::Packed::packed_from_digit))]
 fn from_digit(low: u64, high: u64, digit: u64) -> u64
     requires { digit < 64 }
     ensures { (p : ℕ → Bool) (from : ℕ) → low ≡ packed p from 64 → high ≡ packed p (from + 64) 64 → result ≡ packed p (from + digit) 64 }
@@ -92,6 +98,7 @@ fn from_digit(low: u64, high: u64, digit: u64) -> u64
 
 // The lines for which another byte at an index of the RAM changes the pointer word or a pixel byte. Line 0 has the entry `top`,
 // and after entry 255 comes entry 0.
+#[tactic(auto, using(crate::proofs::Hits::none_past))]
 pub fn touched(ram: &[u8], table: u8, top: u8, at: usize) -> LineSet
     ensures { result ≡ set_of (touches ram.now table top at) }
 {

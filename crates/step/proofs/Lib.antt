@@ -1,1 +1,3 @@
+mod Lent
 mod Plain
+mod WritesAndPorts

@@ -1,6 +1,7 @@
 // A step of any kind: it takes the record and hands the next one on in its answer, and is lent RAM and boot stream. Both are
 // checked first, and once.
 #![tactic(auto)]
+
 ghost use Rattle.std.specs.Prelude.{◌≡◌, ◌≤◌, length};
 ghost use Rattle.step_rules.specs.Answers.{lent_refusal, step_effect, effect_ram, step_answer, step_ram};
 ghost use Rattle.step_rules.specs.Decoding.{decoded, numbers_answer, numbers_ram};
@@ -20,6 +21,7 @@ pub use step_rules::{Answer, Reply, Step};
 use step_rules::{Effect, decode_step};
 
 // 1 for a record that is not good, 2 for a RAM or boot stream of the wrong length, 0 otherwise.
+#[tactic(auto, unfolding(step_rules::specs::Answers::lent_refusal, board::specs::Record::record_refusal, step_rules::specs::Answers::length_refusal, step_rules::specs::Answers::boot_fits, board::specs::Record::first_refusal))]
 fn lent_refusal(b: Board, ram: usize, boot: usize) -> u8
     ensures { result ≡ lent_refusal b ram boot }
 {
@@ -52,6 +54,7 @@ fn effect(b: Board, s: Step, ram: &mut [u8], boot: &[u8]) -> Effect
     }
 }
 
+#[tactic(auto, using(crate::proofs::Lent::lent_refused, crate::proofs::Lent::lent_kept, crate::proofs::Lent::lent_answer, crate::proofs::Lent::lent_ram, crate::proofs::Lent::lent_counter, step_rules::proofs::Answers::lent_boot))]
 pub fn step(b: Board, s: Step, ram: &mut [u8], boot: &[u8]) -> Answer
     ensures { (result ≡ step_answer b ram.old boot.now s) × (ram.new ≡ step_ram b ram.old boot.now s) }
 {
@@ -64,6 +67,7 @@ pub fn step(b: Board, s: Step, ram: &mut [u8], boot: &[u8]) -> Answer
 
 // The step that a kind, a number and a value name. They are read only where record and buffers are found good, so that the kind leads
 // straight to what it does.
+#[tactic(auto, using(crate::proofs::Lent::lent_refused, crate::proofs::Lent::lent_kept, crate::proofs::Lent::lent_answer, crate::proofs::Lent::lent_ram, crate::proofs::Lent::lent_counter, step_rules::proofs::Answers::lent_boot, crate::proofs::Lent::numbers_step, crate::proofs::Lent::numbers_left))]
 pub fn step_by_numbers(
     b: Board,
     kind: u32,

@@ -5,12 +5,14 @@ ghost use Rattle.step_rules.specs.Answers.{int_line, nmi_line, refused_answer, a
 use board::Board;
 use step_rules::{Answer, Effect, Reply};
 
+#[tactic(auto, unfolding(step_rules::specs::Answers::int_line))]
 fn int_line(b: Board) -> bool
     ensures { result ≡ int_line b }
 {
     !(b.clock.counter == 0) | ((b.external == 1) | ((b.disc.line == 1) & (b.disc.route == 2)))
 }
 
+#[tactic(auto, unfolding(step_rules::specs::Answers::nmi_line))]
 fn nmi_line(b: Board) -> bool
     ensures { result ≡ nmi_line b }
 {
@@ -18,6 +20,7 @@ fn nmi_line(b: Board) -> bool
 }
 
 // A refused step's answer: the record given, and its lines, which are off where it is not good.
+#[tactic(auto, unfolding(step_rules::specs::Answers::refused_answer))]
 pub(crate) fn refused(b: Board, number: u8) -> Answer
     ensures { result ≡ refused_answer b number }
 {
@@ -37,6 +40,7 @@ pub(crate) fn refused(b: Board, number: u8) -> Answer
 }
 
 // The answer of what a kind does: an NMI is shown once, and then the route is none.
+#[tactic(auto, unfolding(step_rules::specs::Answers::answer_of, step_rules::specs::Answers::nmi_shown))]
 pub(crate) fn with_interrupt_lines(e: Effect) -> Answer
     ensures { result ≡ answer_of e }
 {

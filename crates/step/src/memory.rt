@@ -10,6 +10,7 @@ use paging::{byte_at, index, keyboard_index};
 use step_rules::{Effect, Step};
 
 // The byte that a read reaches.
+#[tactic(auto, unfolding(paging::specs::Memory::read_index, paging::specs::Memory::reach_of))]
 fn read_byte(b: Board, address: u16, ram: &[u8]) -> u8
     ensures { result ≡ get_or ram.now (read_index b.sizes b.paging address) 0 }
 {
@@ -19,6 +20,7 @@ fn read_byte(b: Board, address: u16, ram: &[u8]) -> u8
 }
 
 // In boot mode the stream's next byte, else the byte read.
+#[tactic(auto, unfolding(crate::specs::Plain::plain_effect, step_rules::specs::Answers::own_refusal, step_rules::specs::Answers::kind_refusal, step_rules::specs::Answers::state_refusal, step_rules::specs::Answers::stream_ended, step_rules::specs::Answers::step_outcome, board::specs::Record::first_refusal, step_rules::specs::Answers::fetched_byte))]
 pub(crate) fn fetch_effect(b: Board, address: u16, ram: &[u8], boot: &[u8]) -> Effect
     requires { length boot.now ≤ 1024 }
     ensures { result ≡ plain_effect b ram.now boot.now (Step.Fetch address) }
@@ -36,6 +38,7 @@ pub(crate) fn fetch_effect(b: Board, address: u16, ram: &[u8], boot: &[u8]) -> E
     gives(after, boot[at])
 }
 
+#[tactic(auto, unfolding(crate::specs::Plain::plain_effect, step_rules::specs::Answers::own_refusal, step_rules::specs::Answers::kind_refusal, step_rules::specs::Answers::state_refusal, step_rules::specs::Answers::stream_ended, step_rules::specs::Answers::step_outcome, board::specs::Record::first_refusal))]
 pub(crate) fn read_effect(b: Board, address: u16, ram: &[u8], boot: &[u8]) -> Effect
     ensures { result ≡ plain_effect b ram.now boot.now (Step.Read address) }
 {
@@ -53,6 +56,7 @@ fn put(ram: &mut [u8], at: usize, value: u8)
 }
 
 // No line is drawn from a block past 7. The lines are marked by the block that is written, not by the one that is read.
+#[tactic(auto, unfolding(step_rules::specs::Answers::step_effect, step_rules::specs::Answers::effect_ram, step_rules::specs::After::board_after, paging::specs::Memory::write_index, paging::specs::Memory::reach_of, step_rules::specs::Answers::own_refusal, step_rules::specs::Answers::kind_refusal, step_rules::specs::Answers::state_refusal, step_rules::specs::Answers::stream_ended, step_rules::specs::Answers::step_outcome, board::specs::Record::first_refusal))]
 pub(crate) fn write_effect(b: Board, address: u16, value: u8, ram: &mut [u8], boot: &[u8]) -> Effect
     ensures { (result ≡ step_effect b ram.old boot.now (Step.Write address value)) × (ram.new ≡ effect_ram b ram.old boot.now (Step.Write address value)) }
 {
@@ -70,6 +74,7 @@ pub(crate) fn write_effect(b: Board, address: u16, value: u8, ram: &mut [u8], bo
 }
 
 // A byte from the keyboard, at an offset from 0 to 15.
+#[tactic(auto, unfolding(step_rules::specs::Answers::step_effect, step_rules::specs::Answers::effect_ram, step_rules::specs::After::board_after, step_rules::specs::Answers::own_refusal, step_rules::specs::Answers::kind_refusal, step_rules::specs::Answers::state_refusal, step_rules::specs::Answers::stream_ended, step_rules::specs::Answers::step_outcome, board::specs::Record::first_refusal))]
 pub(crate) fn key_effect(b: Board, offset: u8, value: u8, ram: &mut [u8], boot: &[u8]) -> Effect
     ensures { (result ≡ step_effect b ram.old boot.now (Step.Key offset value)) × (ram.new ≡ effect_ram b ram.old boot.now (Step.Key offset value)) }
 {

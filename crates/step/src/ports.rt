@@ -9,6 +9,7 @@ use board::Board;
 use step_rules::{Effect, Step};
 
 // F8 as read: 64 in the flyback, 32 with the disc line on, 16 on 50 Hz, and the counter.
+#[tactic(auto, unfolding(step_rules::specs::Ports::status_byte))]
 fn status(b: Board) -> u8
     requires { b.clock.counter ≤ 15 }
     ensures { result ≡ status_byte b }
@@ -20,6 +21,7 @@ fn status(b: Board) -> u8
 }
 
 // The ports out that are forwarded to the host.
+#[tactic(auto, unfolding(step_rules::specs::Ports::forwarded_out))]
 fn is_forwarded(port: u8) -> bool
     ensures { result ≡ forwarded_out port }
 {
@@ -32,6 +34,7 @@ fn is_forwarded(port: u8) -> bool
 }
 
 // F4 and F8 give one byte; F4 alone clears the counter.
+#[tactic(auto, unfolding(crate::specs::Plain::plain_effect, step_rules::specs::Answers::own_refusal, step_rules::specs::Answers::kind_refusal, step_rules::specs::Answers::state_refusal, step_rules::specs::Answers::stream_ended, step_rules::specs::Answers::step_outcome, board::specs::Record::first_refusal, step_rules::specs::Answers::port_in_outcome, step_rules::specs::Ports::decoded_in, step_rules::specs::Ports::forwarded_in))]
 pub(crate) fn port_in_effect(b: Board, port: u8, ram: &[u8], boot: &[u8]) -> Effect
     requires { b.clock.counter ≤ 15 }
     ensures { result ≡ plain_effect b ram.now boot.now (Step.PortIn port) }
@@ -56,6 +59,7 @@ pub(crate) fn port_in_effect(b: Board, port: u8, ram: &[u8], boot: &[u8]) -> Eff
     }
 }
 
+#[tactic(auto, using(crate::proofs::WritesAndPorts::out_register, crate::proofs::WritesAndPorts::out_none))]
 pub(crate) fn port_out_effect(b: Board, port: u8, value: u8, ram: &[u8], boot: &[u8]) -> Effect
     ensures { result ≡ step_effect b ram.now boot.now (Step.PortOut port value) }
 {

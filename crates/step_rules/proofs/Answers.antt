@@ -1,6 +1,6 @@
 -- Laws of refusals, effects and answers.
 -- Assumes nothing.
-use Prim.Native.Nat.{ℕ, ◌*◌, ◌≤◌}
+use Prim.Native.Nat.{ℕ, ◌≤◌}
 use native.Mathlib.Omega.{arith}
 use mathlib.Core.Path.{◌≡◌, refl, sym, ◌∙◌, ap}
 use mathlib.Core.Bool.{Bool, true, false, cond, ◌&&◌}
@@ -12,7 +12,6 @@ use Rattle.facts.proofs.Bools.{both, cond_kept}
 use Rattle.lineset.specs.declared.LineSet.{LineSet}
 use Rattle.lineset.proofs.Sets.{Words}
 use Rattle.paging.specs.Maps.{ram_fits}
-use Rattle.paging.proofs.Maps.{ram_length}
 use Rattle.scanline.specs.Drawing.{View}
 use Rattle.board.specs.declared.record.Board.{Board}
 use Rattle.board.specs.Record.{good, record_refusal, view_of, with_dirty}

@@ -1,5 +1,6 @@
 // What a step is given and what it answers; and a step from plain numbers. The model of a step is in specs/, and `step` has the operation.
 #![tactic(auto)]
+
 mod numbers;
 
 use board::Board;

@@ -5,6 +5,7 @@ ghost use Rattle.step_rules.specs.Decoding.{in_range, decoded, step_of};
 use crate::Step;
 
 // Whether a kind, from 1 to 9, takes a number and a value; where it takes none, that is 0.
+#[tactic(auto, unfolding(crate::specs::Decoding::in_range, crate::specs::Decoding::largest_number, crate::specs::Decoding::largest_value))]
 fn in_range(kind: u32, number: u32, value: u32) -> bool
     ensures { result ≡ in_range kind number value }
 {
@@ -23,6 +24,7 @@ fn in_range(kind: u32, number: u32, value: u32) -> bool
 }
 
 // The step that a kind, a number and a value name; where they name none, one that is refused alike.
+#[tactic(auto, unfolding(crate::specs::Decoding::decoded, crate::specs::Decoding::step_of, crate::specs::Decoding::step_named, crate::specs::Decoding::in_range, crate::specs::Decoding::largest_number, crate::specs::Decoding::largest_value))]
 pub fn decode_step(kind: u32, number: u32, value: u32) -> Step
     ensures { result ≡ step_of (decoded kind number value) }
 {
