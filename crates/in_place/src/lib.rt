@@ -1,5 +1,6 @@
 // A step on a record that the caller keeps.
 #![tactic(auto)]
+
 ghost use Rattle.std.specs.Prelude.{◌≡◌};
 ghost use Rattle.step_rules.specs.Answers.{step_answer, step_ram};
 
