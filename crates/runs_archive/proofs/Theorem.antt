@@ -2,21 +2,20 @@
 -- Assumes nothing.
 use Prim.Native.Nat.{ℕ, ◌+◌, ◌*◌, ◌≤◌, ◌<◌}
 use native.Mathlib.Omega.{arith}
-use mathlib.Core.Path.{◌≡◌, refl, sym, ap, ◌∙◌}
+use mathlib.Core.Path.{◌≡◌, ap, ◌∙◌}
 use mathlib.Core.Bool.{Bool, true}
 use mathlib.Core.List.{List, [], ◌∷◌}
 use lib.ListN.{get_or, length, take, drop, get_or-append}
 use lib.Seq.{get_or-take, length-take-le}
 use Rattle.facts.specs.Lists.{in_room}
-use Rattle.lineset.specs.Lines.{shown_count}
 use Rattle.archive.proofs.Written.{shown_most}
-use Rattle.archive_add.proofs.Adding.{AddTaken, add_taken}
+use Rattle.archive_add.proofs.Adding.{add_taken}
 use Rattle.archive_lists.specs.Lists.{Add}
 use Rattle.archive_lists.proofs.After.{read_after_add}
 use Rattle.runs.specs.Reference.{Reference}
 use Rattle.runs.specs.Events.{Event, step, refresh, step_on_other, refresh_on_other, overwritten, Machine, next, fed, undisturbed, Lent, Returns, RefreshReturns, Claims}
 use Rattle.runs.proofs.Theorem.{whole_runs}
-use Rattle.runs_archive.specs.Steward.{kept, ReadsBack, Kept, AllKept, Steward}
+use Rattle.runs_archive.specs.Steward.{kept, Kept, AllKept, Steward}
 
 -- a byte of what was written at the front
 front_at : (text room : List ℕ) (n k : ℕ) → n ≤ length text → k < n → get_or (in_room (take n text) room) k 0 ≡ get_or text k 0
