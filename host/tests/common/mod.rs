@@ -2,15 +2,19 @@
 // Not every test needs all of it.
 #![allow(dead_code)]
 
+use std::env;
 use std::fs;
 use std::io::Write;
 use std::path::{Path, PathBuf};
 use std::process::{Command, Output, Stdio};
 use std::thread;
 
-/// A folder of its own for each test.
+/// A folder of its own for each test. It stands outside the repository, since some tests make links, which `rt ci` refuses in a
+/// checkout; its name tells which checkout it is of.
 pub fn folder(name: &str) -> PathBuf {
-    let folder = PathBuf::from(env!("CARGO_TARGET_TMPDIR")).join(name);
+    let checkout: String =
+        env!("CARGO_TARGET_TMPDIR").chars().map(|c| if c.is_ascii_alphanumeric() { c } else { '-' }).collect();
+    let folder = env::temp_dir().join(format!("joyce-tests{checkout}")).join(name);
     let _ = fs::remove_dir_all(&folder);
     fs::create_dir_all(&folder).expect("a folder");
     folder
