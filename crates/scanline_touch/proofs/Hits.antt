@@ -78,6 +78,10 @@ fours_end p i m z h =
 
 -- ---- the entries of the table, in quarters of 64
 
+-- the hit of entry k of a quarter: whether an index is among its pixel bytes
+unfoldable pub hit_of : List ℕ → ℕ → ℕ → ℕ → ℕ → ℕ
+hit_of ram table quarter at k = bool_byte (pixel_touched (pointer_word ram table 0 (64 * quarter + k)) at)
+
 entry_half : (table j : ℕ) → entry_index table 0 j / 2 ≡ 256 * table + j % 256
 unfolding entry_index entry_of
 entry_half table j = omega (arith, table_index_lem table)
