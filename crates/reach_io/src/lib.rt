@@ -1,25 +1,11 @@
 // The reach list as a program: groups of 9 bytes from standard input, lines of text to standard output.
 #![tactic(auto)]
 
-ghost use Rattle.std.specs.Prelude.{◌≡◌, ◌≤◌, IfOk, length};
+ghost use Rattle.std.specs.Prelude.{◌≡◌, IfOk};
 
+use reading::read_full;
 use std::io;
 use std::io::Read;
-
-// Reads until `buf` is full or the input ends, and gives how many bytes came.
-fn read_full(from: &mut impl Read, buf: &mut [u8]) -> io::Result<usize>
-    ensures { IfOk result (λ n. n ≤ length buf.new) }
-{
-    let mut done = 0;
-    while done < buf.len() {
-        let got = from.read(&mut buf[done..])?;
-        if got == 0 {
-            return Ok(done);
-        }
-        done += got;
-    }
-    Ok(done)
-}
 
 // Lists one chunk, and answers whether another may follow. A chunk that `input` does not fill is the last.
 fn list_some(

@@ -14,8 +14,9 @@ mod calls;
 mod print;
 
 use crate::bytes::{change, fill, least};
+use reading::read_full;
 use std::io;
-use std::io::{ErrorKind, Read};
+use std::io::Read;
 
 #[derive(Clone, Copy)]
 struct Group {
@@ -40,25 +41,12 @@ fn joined(a: u8, b: u8, c: u8, d: u8) -> u32 {
     a as u32 + 256 * (b as u32) + 65536 * (c as u32) + 16777216 * (d as u32)
 }
 
-// Whether a buffer was filled. An input that ends before fills none; a read that fails is an error.
-fn was_filled(read: io::Result<()>) -> io::Result<bool> {
-    match read {
-        Ok(()) => Ok(true),
-        Err(e) => {
-            if e.kind() == ErrorKind::UnexpectedEof {
-                return Ok(false);
-            }
-            Err(e)
-        }
-    }
-}
-
 // The next group of the list, if there is one.
 fn next_group(input: &mut impl Read) -> io::Result<Group> {
     let mut g = [0u8; 16];
-    let read = was_filled(input.read_exact(&mut g))?;
+    let got = read_full(input, &mut g)?;
     Ok(Group {
-        read,
+        read: got == 16,
         op: joined(g[0], g[1], g[2], g[3]),
         a: joined(g[4], g[5], g[6], g[7]),
         b: joined(g[8], g[9], g[10], g[11]),
@@ -69,7 +57,7 @@ fn next_group(input: &mut impl Read) -> io::Result<Group> {
 // Where the input ends within a title, what is left of it is zeros.
 fn title(rt: &impl Print, input: &mut impl Read) -> io::Result<()> {
     let mut t = [0u8; 64];
-    let _filled = was_filled(input.read_exact(&mut t))?;
+    read_full(input, &mut t)?;
     print::text(rt, &t)
 }
 

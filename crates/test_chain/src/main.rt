@@ -10,8 +10,9 @@
 mod chain;
 mod memory;
 
+use reading::read_full;
 use std::io;
-use std::io::{ErrorKind, Read};
+use std::io::Read;
 
 #[derive(Clone, Copy)]
 struct Group {
@@ -23,25 +24,12 @@ struct Group {
     v: u8,
 }
 
-// Whether a buffer was filled. An input that ends before fills none; a read that fails is an error.
-fn was_filled(read: io::Result<()>) -> io::Result<bool> {
-    match read {
-        Ok(()) => Ok(true),
-        Err(e) => {
-            if e.kind() == ErrorKind::UnexpectedEof {
-                return Ok(false);
-            }
-            Err(e)
-        }
-    }
-}
-
 // The next group of the list, if there is one.
 fn next_group(input: &mut impl Read) -> io::Result<Group> {
     let mut g = [0u8; 5];
-    let read = was_filled(input.read_exact(&mut g))?;
+    let got = read_full(input, &mut g)?;
     Ok(Group {
-        read,
+        read: got == 5,
         op: g[0],
         a: g[1],
         b: g[2],

@@ -15,8 +15,9 @@ mod tally;
 
 use crate::bytes::{fill, sum};
 use crate::tally::Run;
+use reading::read_full;
 use std::io;
-use std::io::{ErrorKind, Read};
+use std::io::Read;
 use step::Step;
 use step_rules::decode_step;
 
@@ -113,25 +114,12 @@ struct Group {
     c: u8,
 }
 
-// Whether a buffer was filled. An input that ends before fills none; a read that fails is an error.
-fn was_filled(read: io::Result<()>) -> io::Result<bool> {
-    match read {
-        Ok(()) => Ok(true),
-        Err(e) => {
-            if e.kind() == ErrorKind::UnexpectedEof {
-                return Ok(false);
-            }
-            Err(e)
-        }
-    }
-}
-
 // The next group of the list, if there is one.
 fn next_group(input: &mut impl Read) -> io::Result<Group> {
     let mut g = [0u8; 4];
-    let read = was_filled(input.read_exact(&mut g))?;
+    let got = read_full(input, &mut g)?;
     Ok(Group {
-        read,
+        read: got == 4,
         op: g[0],
         a: g[1],
         b: g[2],

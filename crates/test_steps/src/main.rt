@@ -5,32 +5,17 @@
 mod groups;
 mod record;
 
-ghost use Rattle.std.specs.Prelude.{◌≡◌, ◌≤◌, IfOk, length};
+ghost use Rattle.std.specs.Prelude.{◌≡◌, length};
 
 use groups::State;
+use reading::read_full;
 use std::io;
-use std::io::Read;
 
 // 18 blocks of zeros and a byte. Lending the array as a slice needs its length.
 fn memory() -> [u8; 294913]
     ensures { 294913 ≡ length result }
 {
     [0; 294913]
-}
-
-// Reads until `buf` is full or the input ends, and gives how many bytes came.
-fn read_full(input: &mut impl Read, buf: &mut [u8]) -> io::Result<usize>
-    ensures { IfOk result (λ n. n ≤ length buf.new) }
-{
-    let mut done = 0;
-    while done < buf.len() {
-        let got = input.read(&mut buf[done..])?;
-        if got == 0 {
-            return Ok(done);
-        }
-        done += got;
-    }
-    Ok(done)
 }
 
 fn main(rt: HostRuntime) -> io::Result<()> {
