@@ -3,4 +3,5 @@ pub mod Bools
 pub mod Filled
 pub mod Overlaid
 pub mod Rooms
+pub mod Searches
 pub mod Tests

@@ -13,10 +13,10 @@ use lib.Count.{ones, count_trailing_zeros}
 use lib.ListN.{get_or}
 use mir.Val.{bool_byte}
 use Rattle.lineset.specs.declared.LineSet.{LineSet}
-use Rattle.lineset.specs.declared.NextLine.TheVariants.{At, Nothing}
-use Rattle.lineset.specs.Lines.{packed, set_of, member, count_of, first_of, inside}
+use Rattle.std.specs.Prelude.{Some}
+use Rattle.lineset.specs.Lines.{packed, set_of, member, count_of, inside}
 use Rattle.lineset.proofs.Packed.{packed_shift, or_packed, and_packed, ones_packed, count_add}
-use Rattle.facts.specs.Tests.{every}
+use Rattle.facts.specs.Tests.{every, first_of}
 use Rattle.facts.proofs.Tests.{every_all, every_agree, every_add}
 use Rattle.lineset.proofs.Search.{first_none, first_some}
 use Rattle.lineset.proofs.Sets.{Words, word_members, member_set}
@@ -87,7 +87,7 @@ module _ (s : LineSet) (ws : Words s) (i k : ℕ) (hi : i < 4) (hk : k < 64) whe
   cut = omega arith
 
   pub first_here : (get_or s.words i 0 / 2 ^ k ≡ 0 → ⊥)
-      → first_of (member s) (64 * i + k) (256 - (64 * i + k)) ≡ At (64 * i + k + count_trailing_zeros 64 (get_or s.words i 0 / 2 ^ k))
+      → first_of (member s) (64 * i + k) (256 - (64 * i + k)) ≡ Some (64 * i + k + count_trailing_zeros 64 (get_or s.words i 0 / 2 ^ k))
   first_here ne =
       rw (cut, tail) (first_some (member s) (64 * i + k) (64 - k) (256 - 64 * (i + 1)) 64 (λ z. ne (tail ∙ z)) (omega arith))
 
@@ -97,20 +97,16 @@ module _ (s : LineSet) (ws : Words s) (i k : ℕ) (hi : i < 4) (hk : k < 64) whe
       let e : 64 * i + k + (64 - k) ≡ 64 * (i + 1) = omega arith in
       rw cut (first_none (member s) (64 * i + k) (64 - k) (256 - 64 * (i + 1)) (sym tail ∙ z)) ∙ ap (λ (n : ℕ). first_of (member s) n (256 - 64 * (i + 1))) e
 
--- past the last line there is none
-pub first_empty : (p : ℕ → Bool) (n : ℕ) → 256 ≤ n → first_of p n (256 - n) ≡ Nothing
-first_empty p n l = let e : 256 - n ≡ 0 = omega arith in rw e (unfold first_of in refl)
-
 -- the same from line n on, whose bit is n % 64 of word n / 64, and from the first line of a word on
 module _ (s : LineSet) (ws : Words s) (n : ℕ) (h : n < 256) where
   back : 64 * (n / 64) + n % 64 ≡ n
   back = omega arith
 
   pub first_at : (get_or s.words (n / 64) 0 / 2 ^ (n % 64) ≡ 0 → ⊥)
-      → first_of (member s) n (256 - n) ≡ At (n + count_trailing_zeros 64 (get_or s.words (n / 64) 0 / 2 ^ (n % 64)))
+      → first_of (member s) n (256 - n) ≡ Some (n + count_trailing_zeros 64 (get_or s.words (n / 64) 0 / 2 ^ (n % 64)))
   first_at ne =
       ap (λ (m : ℕ). first_of (member s) m (256 - m)) (sym back) ∙ first_here s ws (n / 64) (n % 64) (omega arith) (omega arith) ne
-      ∙ ap (λ (m : ℕ). At (m + count_trailing_zeros 64 (get_or s.words (n / 64) 0 / 2 ^ (n % 64)))) back
+      ∙ ap (λ (m : ℕ). Some (m + count_trailing_zeros 64 (get_or s.words (n / 64) 0 / 2 ^ (n % 64)))) back
 
   pub first_over : get_or s.words (n / 64) 0 / 2 ^ (n % 64) ≡ 0
       → first_of (member s) n (256 - n) ≡ first_of (member s) (64 * (n / 64 + 1)) (256 - 64 * (n / 64 + 1))
@@ -118,11 +114,11 @@ module _ (s : LineSet) (ws : Words s) (n : ℕ) (h : n < 256) where
       ap (λ (m : ℕ). first_of (member s) m (256 - m)) (sym back) ∙ first_past s ws (n / 64) (n % 64) (omega arith) (omega arith) z
 
 module _ (s : LineSet) (ws : Words s) (i : ℕ) (h : i < 4) where
-  pub first_word : (get_or s.words i 0 ≡ 0 → ⊥) → first_of (member s) (64 * i) (256 - 64 * i) ≡ At (i * 64 + count_trailing_zeros 64 (get_or s.words i 0))
+  pub first_word : (get_or s.words i 0 ≡ 0 → ⊥) → first_of (member s) (64 * i) (256 - 64 * i) ≡ Some (i * 64 + count_trailing_zeros 64 (get_or s.words i 0))
   first_word ne =
       let e : 64 * i ≡ i * 64 = omega arith in
       rw (add-zero, div-one) at (first_here s ws i 0 h (omega arith) (λ z. ne (sym (div-one (get_or s.words i 0)) ∙ z)))
-      ∙ ap (λ (m : ℕ). At (m + count_trailing_zeros 64 (get_or s.words i 0))) e
+      ∙ ap (λ (m : ℕ). Some (m + count_trailing_zeros 64 (get_or s.words i 0))) e
 
   pub first_next : get_or s.words i 0 ≡ 0 → first_of (member s) (64 * i) (256 - 64 * i) ≡ first_of (member s) (64 * (i + 1)) (256 - 64 * (i + 1))
   first_next z = rw add-zero at (first_past s ws i 0 h (omega arith) (div-one (get_or s.words i 0) ∙ z))

@@ -3,8 +3,6 @@ use Rattle.std.specs.Prelude.{ℕ, zero, suc, ◌+◌, ◌*◌, ◌/◌, ◌%◌
 use mir.Val.{bool_byte}
 use Rattle.facts.specs.Tests.{every}
 use Rattle.lineset.specs.declared.LineSet.{LineSet}
-use Rattle.lineset.specs.declared.NextLine.{NextLine}
-use Rattle.lineset.specs.declared.NextLine.TheVariants.{At, Nothing}
 
 -- of the n numbers from `from` on, p as a binary number, the first number's digit lowest
 unfoldable pub packed : (ℕ → Bool) → ℕ → ℕ → ℕ
@@ -19,14 +17,10 @@ set_of p = record { words = packed p 0 64 ∷ packed p 64 64 ∷ packed p 128 64
 unfoldable pub member : LineSet → ℕ → Bool
 member s L = eqb (get_or s.words (L / 64) 0 / 2 ^ (L % 64) % 2) 1
 
--- of the n numbers from `from` on, how many p holds of (the redraw count), and the first that it holds of
+-- of the n numbers from `from` on, how many p holds of (the redraw count)
 unfoldable pub count_of : (ℕ → Bool) → ℕ → ℕ → ℕ
 count_of p from zero = 0
 count_of p from (suc n) = bool_byte (p from) + count_of p (suc from) n
-
-unfoldable pub first_of : (ℕ → Bool) → ℕ → ℕ → NextLine
-first_of p from zero = Nothing
-first_of p from (suc n) = cond (p from) (At from) (first_of p (suc from) n)
 
 -- every line of s is in t
 unfoldable pub inside : LineSet → LineSet → Bool

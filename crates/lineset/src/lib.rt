@@ -2,19 +2,13 @@
 #![tactic(auto)]
 
 ghost use Rattle.std.specs.Prelude.{◌≡◌, false, ◌&&◌, ◌||◌, ℕ, ◌-◌};
-ghost use Rattle.lineset.specs.Lines.{member, set_of, count_of, first_of, shown_count, is_shown, shown_set};
+ghost use Rattle.facts.specs.Tests.{first_of};
+ghost use Rattle.lineset.specs.Lines.{member, set_of, count_of, shown_count, is_shown, shown_set};
 
 #[repr(C)]
-#[derive(Clone, Copy)]
+#[derive(Clone, Copy, Default)]
 pub struct LineSet {
     pub words: [u64; 4],
-}
-
-// The next line that a search finds.
-#[derive(Clone, Copy)]
-pub enum NextLine {
-    At(u16),
-    Nothing,
 }
 
 // How many lines a frame rate shows: 256 at 50 Hz, 200 at 60 Hz, none at any other rate.
@@ -123,27 +117,25 @@ impl LineSet {
         a + b + c + d
     }
 
-    // The first line of the set at or after n; nothing for n over 255.
-    #[tactic(auto, using(crate::proofs::Operations::first_empty))]
-    pub fn next(self, n: u16) -> NextLine
+    // The first line of the set at or after n; none for n over 255.
+    #[tactic(auto, using(facts::proofs::Searches::first_end))]
+    pub fn next(self, n: u16) -> Option<u16>
         ensures { result ≡ first_of (member self) n (256 - n) }
     {
         if n > 255 {
-            return NextLine::Nothing;
+            return None;
         }
-        let mut i = (n / 64) as usize;
-        let w = self.words[i] >> (n % 64);
+        let first = (n / 64) as usize;
+        let w = self.words[first] >> (n % 64);
         if w != 0 {
-            return NextLine::At(n + u64::trailing_zeros(w) as u16);
+            return Some(n + w.trailing_zeros() as u16);
         }
-        i += 1;
-        while i < 4 {
+        for i in first + 1..4 {
             let w = self.words[i];
             if w != 0 {
-                return NextLine::At((i as u16) * 64 + u64::trailing_zeros(w) as u16);
+                return Some(i as u16 * 64 + w.trailing_zeros() as u16);
             }
-            i += 1;
         }
-        NextLine::Nothing
+        None
     }
 }
