@@ -9,7 +9,7 @@ ghost use Rattle.paging.specs.Memory.{locked};
 
 // Memory sizes in 16K blocks: internal, and internal with expansion.
 #[repr(C)]
-#[derive(Clone, Copy)]
+#[derive(Clone, Copy, Default)]
 pub struct Sizes {
     pub internal: u8,
     pub total: u8,
@@ -17,7 +17,7 @@ pub struct Sizes {
 
 // The map byte of each bank (F0 to F3) and the lock byte (F4).
 #[repr(C)]
-#[derive(Clone, Copy)]
+#[derive(Clone, Copy, Default)]
 pub struct Paging {
     pub maps: [u8; 4],
     pub lock: u8,
