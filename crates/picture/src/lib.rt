@@ -111,6 +111,5 @@ pub fn next_dirty(b: Board, n: u16) -> Result<Option<u16>, Refusal>
     if n > 255 {
         return Err(Refusal::BadNumber);
     }
-    let dirty = b.dirty;
-    Ok(dirty.next(n))
+    Ok(b.dirty.next(n))
 }
