@@ -3,4 +3,6 @@
 
 mod packing;
 
-pub use packing::{make_pointer_reply, reach_reply, read_pointer_reply, reply};
+pub use packing::{
+    accepted, make_pointer_reply, reach_reply, read_pointer_reply, refused, refused_step,
+};

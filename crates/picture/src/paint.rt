@@ -31,7 +31,7 @@ impl View<'_> {
         }
     }
 
-    // The lines from 0 to before `end`: counted, since a search for each as in `paint_set` makes a draw of 256 lines a tenth longer.
+    // The lines from 0 to before `end`: counted, since a search for each, as in `paint_set`, takes a draw 9 % more instructions.
     pub(crate) fn paint_first(self, end: u16, picture: &mut [u8; 23040])
         requires { end ≤ 256 }
         ensures { picture.new ≡ painted (λ (L : ℕ). ltb L end) (record { video = self.entry.video; ram = self.entry.ram.now }) picture.old }
