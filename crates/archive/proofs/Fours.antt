@@ -6,13 +6,13 @@ use native.Mathlib.Numerals.{add-one}
 use native.Mathlib.Omega.{arith}
 use mathlib.Core.Path.{◌≡◌, refl, sym, ap, ◌∙◌}
 use mathlib.Core.List.{List, [], ◌∷◌}
-use mathlib.Core.Bool.{Bool, true, false, not, ◌&&◌, ◌||◌, and-false, and-true, and_assoc}
+use mathlib.Core.Bool.{Bool, true, false, not, ◌&&◌, ◌||◌, and-false, and-true, and_assoc, or-false, or_assoc}
 use lib.ListN.{length, get_or, take}
 use lib.Seq.{get_or-take, length-take-le}
 use lib.Dec.{eqb}
 use borrow.Author.Tests.{not-true, not-false, eq-eqb, ne_eqb, eqb-true, eqb-false}
 use Rattle.std.specs.Prelude.{Option, None, Some, is_none, is_some}
-use Rattle.std.specs.List.{list_any, list_all}
+use Rattle.std.specs.List.{fold, list_any, list_all}
 use Rattle.byte_rows.specs.Numbers.{at4}
 use Rattle.facts.specs.Tests.{every, first_of}
 use Rattle.facts.proofs.Bools.{not_or}
@@ -62,12 +62,16 @@ unfolding same_pair has_pair
 any_has f j x [] e g = refl
 any_has f j x (p ∷ ps) e g = rw (e, g, eqb_swap p.bench (f j).bench, eqb_swap p.number (f j).number, any_has f j x ps e g)
 
+fold_any : (t : Pair → Bool) (ps : List Pair) (b : Bool) → fold (λ (has : Bool) (p : Pair). has || t p) b ps ≡ (b || list_any t ps)
+fold_any t [] b = rw or-false
+fold_any t (p ∷ ps) b = fold_any t ps (b || t p) ∙ or_assoc b (t p) (list_any t ps)
+
 -- one frame more
 pub none_more : (rows : List (List ℕ)) (j : ℕ) (ps : List Pair) (seen x : Bool) → every (none_of (named rows) ps) 0 j ≡ not seen
-    → x ≡ list_any (λ (p : Pair). same_pair p (pair_in (get_or rows j []))) ps → every (none_of (named rows) ps) 0 (j + 1) ≡ not (seen || x)
+    → x ≡ fold (λ (has : Bool) (p : Pair). has || same_pair p (pair_in (get_or rows j []))) false ps → every (none_of (named rows) ps) 0 (j + 1) ≡ not (seen || x)
 unfolding named pair_in
 none_more rows j ps seen x h is =
-    below_next (none_of (named rows) ps) j ∙ rw (h, is, not_or, any_has (named rows) j (pair_in (get_or rows j [])) ps refl refl)
+    below_next (none_of (named rows) ps) j ∙ rw (h, is, fold_any (λ (p : Pair). same_pair p (pair_in (get_or rows j []))) ps false, not_or, any_has (named rows) j (pair_in (get_or rows j [])) ps refl refl)
 
 -- ---- rows before one
 

@@ -1,6 +1,5 @@
 use Rattle.std.proofs.Common.{◌≡◌, refl, sym, ◌∙◌, arith, length}
 use Rattle.facts.specs.Tests.{every}
-use Rattle.archive.specs.Rows.{same_pair}
 use Rattle.archive.proofs.Fours.{none_has, none_more}
 use Rattle.archive.proofs.unique.four_new.Goals as goal
 
@@ -9,8 +8,7 @@ unfolding every
 loop-row-init c = refl
 
 pub loop-row-preserved : goal.loop-row-preserved
-unfolding same_pair
-loop-row-preserved c = none_more c.args.rows.now _ _ _ _ c.loop-row.invariant (rw c.read.ensures at c.contains-seen.ensures.value)
+loop-row-preserved c = none_more c.args.rows.now _ _ _ _ c.loop-row.invariant c.one_has-seen.ensures
 
 pub returns : goal.returns
 returns c = let e : c.loop-row.row-index ≡ length c.args.rows.now = omega arith in sym (rw e at c.loop-row.invariant) ∙ none_has _ _ _
