@@ -4,5 +4,6 @@
 mod packing;
 
 pub use packing::{
-    accepted, make_pointer_reply, reach_reply, read_pointer_reply, refused, refused_step,
+    FLOATING, FORWARDED, FOUND, INT, NMI, accepted, make_pointer_reply, reach_reply,
+    read_pointer_reply, refused, refused_step,
 };

@@ -9,6 +9,17 @@ use paging::{Paging, Sizes};
 use refusal::Refusal;
 use scanline::Pointer;
 
+// The bits of the flags.
+pub const INT: u8 = 1;
+
+pub const NMI: u8 = 2;
+
+pub const FORWARDED: u8 = 4;
+
+pub const FLOATING: u8 = 8;
+
+pub const FOUND: u8 = 16;
+
 #[tactic(auto, unfolding(crate::specs::Packing::reply))]
 fn packed(value: u16, flags: u8, refusal: u8, more: u16) -> u64
     ensures { result ≡ reply value flags refusal more }

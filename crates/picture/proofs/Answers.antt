@@ -68,13 +68,13 @@ accepted b ram picture r e z = go (eqb (lent_refusal b ram) 0) refl (sym (lent_f
 
 -- ---- what a result tells of its refusal number
 
-pub told_ok : {A : Type 0} (n : ℕ) (x y : A) (r : Result A Refusal) → r ≡ answered n x → r ≡ Ok y → n ≡ 0
+pub told_ok : {A : Type 0} (n : ℕ) (x y : A) (r : Result A Refusal) → r ≡ answered n x → r ≡ Ok y → (n ≡ 0) × (y ≡ x)
 unfolding answered
 told_ok {A} n x y r e d = go (eqb n 0) refl (sym d ∙ e)
   where
-    go : (t : Bool) → eqb n 0 ≡ t → ◌≡◌ {A = Result A Refusal} (Ok y) (cond t (Ok x) (Err (named n))) → n ≡ 0
-    go true f h = eqb-true n 0 f
-    go false f h = cc
+    go : (t : Bool) → eqb n 0 ≡ t → ◌≡◌ {A = Result A Refusal} (Ok y) (cond t (Ok x) (Err (named n))) → (n ≡ 0) × (y ≡ x)
+    go true f h = (eqb-true n 0 f, cc)
+    go false f h = absurd (cc)
 
 pub told_err : {A : Type 0} (n : ℕ) (x : A) (q : Refusal) (r : Result A Refusal) → r ≡ answered n x → r ≡ Err q → (n ≡ 0 → ⊥) × (q ≡ named n)
 unfolding answered
@@ -133,10 +133,10 @@ module _ (b : Board) (ram picture : ℕ) (r : Result Unit Refusal) (e : r ≡ an
       (λ (z : picture_refusal b ram picture ≡ 0). t.0 (sym s ∙ z), t.1 ∙ ap named (sym s))
 
   lent_ok : r ≡ Ok tt → picture_refusal b ram picture ≡ cond (picture_fits picture) 0 2
-  lent_ok d = lent_first b ram picture ∙ rw (told_ok (lent_refusal b ram) tt tt r e d)
+  lent_ok d = lent_first b ram picture ∙ rw (told_ok (lent_refusal b ram) tt tt r e d).0
 
   pub lent_enough : r ≡ Ok tt → 131072 ≤ ram
-  lent_enough d = (enough b ram (told_ok (lent_refusal b ram) tt tt r e d)).1
+  lent_enough d = (enough b ram (told_ok (lent_refusal b ram) tt tt r e d).0).1
 
   pub size_wrong : r ≡ Ok tt → (picture ≡ 23040 → ⊥) → (picture_refusal b ram picture ≡ 0 → ⊥) × (BadLength ≡ named (picture_refusal b ram picture))
   unfolding picture_fits named
