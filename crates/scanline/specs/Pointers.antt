@@ -2,7 +2,6 @@
 use Rattle.std.specs.Prelude.{ℕ, ◌+◌, ◌*◌, ◌/◌, ◌%◌, cond, ◌||◌, List, eqb, ltb, get_or}
 use Rattle.paging.specs.Memory.{index_of}
 use Rattle.scanline.specs.declared.Pointer.{Pointer}
-use Rattle.scanline.specs.declared.MadePointer.{MadePointer}
 
 -- "F5: table in block F5 / 32 at place 512 x (F5 mod 32)."
 unfoldable pub table_index : ℕ → ℕ
@@ -30,6 +29,10 @@ pointer_refusal p = cond (ltb 7 p.block || (ltb 16383 p.start || eqb (p.start / 
 -- "making takes them back to w"; a refused pointer's word is 0
 unfoldable pub word_of : Pointer → ℕ
 word_of p = p.block * 8192 + (p.start / 16 * 8 + p.start % 8)
+
+pub record MadePointer : Type 0 where
+  pub word : ℕ
+  pub refusal : ℕ
 
 unfoldable pub made_pointer : Pointer → MadePointer
 made_pointer p = record { word = cond (eqb (pointer_refusal p) 0) (word_of p) 0; refusal = pointer_refusal p }

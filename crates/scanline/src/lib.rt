@@ -2,12 +2,15 @@
 #![tactic(auto)]
 
 ghost use Rattle.std.specs.Prelude.{◌≡◌, ◌+◌, ◌*◌};
+ghost use Rattle.refusal.specs.Numbers.{answered};
 ghost use Rattle.scanline.specs.Pointers.{table_index, entry_of, entry_index, pointer_word, pointer_of, made_pointer};
 ghost use Rattle.scanline.specs.Drawing.{pixel_index, drawn_byte, video_differs};
 
+use refusal::Refusal;
+
 // F5, F6 and F7.
 #[repr(C)]
-#[derive(Clone, Copy)]
+#[derive(Clone, Copy, Default)]
 pub struct Video {
     pub table: u8,
     pub top: u8,
@@ -19,13 +22,6 @@ pub struct Video {
 pub struct Pointer {
     pub block: u8,
     pub start: u16,
-}
-
-// A pointer word made, or 0 and the refusal number.
-#[derive(Clone, Copy)]
-pub struct MadePointer {
-    pub word: u16,
-    pub refusal: u8,
 }
 
 // The index of the pointer table that F5 names.
@@ -81,20 +77,15 @@ pub fn read_pointer(word: u16) -> Pointer
     }
 }
 
-#[tactic(auto, unfolding(crate::specs::Pointers::made_pointer, crate::specs::Pointers::pointer_refusal, crate::specs::Pointers::word_of))]
-pub fn make_pointer(p: Pointer) -> MadePointer
-    ensures { result ≡ made_pointer p }
+// The pointer word of a block and a start, which `read_pointer` takes back to them.
+#[tactic(auto, unfolding(crate::specs::Pointers::made_pointer, crate::specs::Pointers::pointer_refusal, crate::specs::Pointers::word_of, refusal::specs::Numbers::answered, refusal::specs::Numbers::named))]
+pub fn make_pointer(p: Pointer) -> Result<u16, Refusal>
+    ensures { result ≡ answered (made_pointer p).refusal (made_pointer p).word }
 {
     if p.block > 7 || p.start > 16383 || p.start / 8 % 2 == 1 {
-        return MadePointer {
-            word: 0,
-            refusal: 3,
-        };
+        return Err(Refusal::BadNumber);
     }
-    MadePointer {
-        word: p.block as u16 * 8192 + (p.start / 16 * 8 + p.start % 8),
-        refusal: 0,
-    }
+    Ok(p.block as u16 * 8192 + p.start / 16 * 8 + p.start % 8)
 }
 
 // The index of pixel byte i of a line, which runs on from block to block, and from block 7 into block 0.
