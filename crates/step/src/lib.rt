@@ -2,72 +2,84 @@
 // checked first, and once.
 #![tactic(auto)]
 
-ghost use Rattle.std.specs.Prelude.{◌≡◌, ◌≤◌, length};
-ghost use Rattle.step_rules.specs.Answers.{lent_refusal, step_effect, effect_ram, step_answer, step_ram};
+ghost use Rattle.std.specs.Prelude.{◌≡◌};
+ghost use Rattle.refusal.specs.Numbers.{answered};
+ghost use Rattle.step_rules.specs.Answers.{step_refusal, effect_of, step_effect, effect_ram, step_answer, step_ram, told};
 ghost use Rattle.step_rules.specs.Decoding.{decoded, numbers_answer, numbers_ram};
 
-mod effects;
+mod lent;
 mod lines;
 mod memory;
 mod ports;
-mod signals;
 
-use board::Board;
-use lines::{refused, with_interrupt_lines};
-use memory::{fetch_effect, key_effect, read_effect, write_effect};
-use ports::{port_in_effect, port_out_effect};
-use signals::{disc_line_effect, external_line_effect, scan_effect};
+use board::{Board, Disc};
+use lent::GoodBoard;
+use lines::{accepted, refused};
+use memory::{fetch, key, read, write};
+use ports::{port_in, port_out};
+use refusal::Refusal;
 pub use step_rules::{Answer, Reply, Step};
-use step_rules::{Effect, decode_step};
+use step_rules::{Effect, Outcome, decode_step};
 
-// 1 for a record that is not good, 2 for a RAM or boot stream of the wrong length, 0 otherwise.
-#[tactic(auto, unfolding(step_rules::specs::Answers::lent_refusal, board::specs::Record::record_refusal, step_rules::specs::Answers::length_refusal, step_rules::specs::Answers::boot_fits, board::specs::Record::first_refusal))]
-fn lent_refusal(b: Board, ram: usize, boot: usize) -> u8
-    ensures { result ≡ lent_refusal b ram boot }
-{
-    if !b.is_good() {
-        return 1;
-    }
-    let sizes = b.sizes;
-    if sizes.ram_fits(ram) & (boot <= 1024) {
-        0
-    } else {
-        2
-    }
-}
+// No byte, and not forwarded.
+const SILENT: Outcome = Outcome {
+    byte: 0,
+    forwarded: false,
+};
 
 // What the kind does, once record and buffers are found good.
-fn effect(b: Board, s: Step, ram: &mut [u8], boot: &[u8]) -> Effect
-    requires { (b.clock.counter ≤ 15) × (length boot.now ≤ 1024) }
-    ensures { (result ≡ step_effect b ram.old boot.now s) × (ram.new ≡ effect_ram b ram.old boot.now s) }
+#[tactic(auto, using(crate::proofs::Effects::scan_does, crate::proofs::Effects::disc_does, crate::proofs::Effects::external_does, crate::proofs::Effects::write_does, crate::proofs::Effects::write_stores, crate::proofs::Effects::ram_kept_by))]
+fn effect(good: GoodBoard, s: Step, ram: &mut [u8], boot: &[u8]) -> Result<Effect, Refusal>
+    ensures { (result ≡ step_effect good.board ram.old boot.now s) × (ram.new ≡ effect_ram good.board ram.old boot.now s) }
 {
-    match s {
-        Step::Fetch(address) => fetch_effect(b, address, ram, boot),
-        Step::Read(address) => read_effect(b, address, ram, boot),
-        Step::Write(address, value) => write_effect(b, address, value, ram, boot),
-        Step::PortIn(port) => port_in_effect(b, port, ram, boot),
-        Step::PortOut(port, value) => port_out_effect(b, port, value, ram, boot),
-        Step::Scan => scan_effect(b, ram, boot),
-        Step::Key(offset, value) => key_effect(b, offset, value, ram, boot),
-        Step::DiscLine(on) => disc_line_effect(b, on, ram, boot),
-        Step::ExternalLine(on) => external_line_effect(b, on, ram, boot),
-    }
+    let b = good.board;
+    let board = match s {
+        Step::Fetch(address) => return fetch(good, address, ram, boot),
+        Step::Read(address) => return read(good, address, ram),
+        Step::Write(address, value) => write(good, address, value, ram),
+        Step::PortIn(port) => return port_in(good, port),
+        Step::PortOut(port, value) => return port_out(good, port, value),
+        Step::Scan => b.scan(),
+        Step::Key(offset, value) => return key(b, offset, value, ram),
+        Step::DiscLine(on) => Board {
+            disc: Disc {
+                line: on as u8,
+                ..b.disc
+            },
+            ..b
+        },
+        Step::ExternalLine(on) => Board {
+            external: on as u8,
+            ..b
+        },
+    };
+    Ok(Effect {
+        board,
+        outcome: SILENT,
+    })
 }
 
-#[tactic(auto, using(crate::proofs::Lent::lent_refused, crate::proofs::Lent::lent_kept, crate::proofs::Lent::lent_answer, crate::proofs::Lent::lent_ram, crate::proofs::Lent::lent_counter, step_rules::proofs::Answers::lent_boot))]
+// What the step does, or why it is refused.
+#[tactic(auto, using(crate::proofs::Answers::lent_refused, crate::proofs::Answers::lent_kept, crate::proofs::Answers::lent_effect, crate::proofs::Answers::lent_ram))]
+fn lent_effect(b: Board, s: Step, ram: &mut [u8], boot: &[u8]) -> Result<Effect, Refusal>
+    ensures { (result ≡ answered (step_refusal b ram.old boot.now s) (effect_of b ram.old boot.now s)) × (ram.new ≡ step_ram b ram.old boot.now s) }
+{
+    let good = GoodBoard::lent(b, ram.len(), boot.len())?;
+    effect(good, s, ram, boot)
+}
+
+#[tactic(auto, using(crate::proofs::Answers::told_accepted, crate::proofs::Answers::told_refused))]
 pub fn step(b: Board, s: Step, ram: &mut [u8], boot: &[u8]) -> Answer
-    ensures { (result ≡ step_answer b ram.old boot.now s) × (ram.new ≡ step_ram b ram.old boot.now s) }
+    ensures { (result ≡ told (step_answer b ram.old boot.now s)) × (ram.new ≡ step_ram b ram.old boot.now s) }
 {
-    let n = lent_refusal(b, ram.len(), boot.len());
-    if n != 0 {
-        return refused(b, n);
+    match lent_effect(b, s, ram, boot) {
+        Ok(e) => accepted(e),
+        Err(refusal) => refused(b, refusal),
     }
-    with_interrupt_lines(effect(b, s, ram, boot))
 }
 
-// The step that a kind, a number and a value name. They are read only where record and buffers are found good, so that the kind leads
-// straight to what it does.
-#[tactic(auto, using(crate::proofs::Lent::lent_refused, crate::proofs::Lent::lent_kept, crate::proofs::Lent::lent_answer, crate::proofs::Lent::lent_ram, crate::proofs::Lent::lent_counter, step_rules::proofs::Answers::lent_boot, crate::proofs::Lent::numbers_step, crate::proofs::Lent::numbers_left))]
+// The step that a kind, a number and a value name.
+#[tactic(auto, using(step_rules::proofs::Decoding::numbers_answer_lem, step_rules::proofs::Decoding::numbers_ram_lem))]
 pub fn step_by_numbers(
     b: Board,
     kind: u32,
@@ -76,12 +88,7 @@ pub fn step_by_numbers(
     ram: &mut [u8],
     boot: &[u8],
 ) -> Answer
-    ensures { (result ≡ numbers_answer b ram.old boot.now (decoded kind number value)) × (ram.new ≡ numbers_ram b ram.old boot.now (decoded kind number value)) }
+    ensures { (result ≡ told (numbers_answer b ram.old boot.now (decoded kind number value))) × (ram.new ≡ numbers_ram b ram.old boot.now (decoded kind number value)) }
 {
-    let c = b.by_fields();
-    let refusal = lent_refusal(c, ram.len(), boot.len());
-    if refusal != 0 {
-        return refused(c, refusal);
-    }
-    with_interrupt_lines(effect(c, decode_step(kind, number, value), ram, boot))
+    step(b, decode_step(kind, number, value), ram, boot)
 }

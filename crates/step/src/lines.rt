@@ -1,8 +1,10 @@
 // A step's answer with its interrupt lines: of what a kind does, or of a refusal.
 ghost use Rattle.std.specs.Prelude.{◌≡◌};
-ghost use Rattle.step_rules.specs.Answers.{int_line, nmi_line, refused_answer, answer_of};
+ghost use Rattle.refusal.specs.Numbers.{number};
+ghost use Rattle.step_rules.specs.Answers.{int_line, nmi_line, accepted_answer, refused_answer, told};
 
-use board::Board;
+use board::{Board, Disc};
+use refusal::Refusal;
 use step_rules::{Answer, Effect, Reply};
 
 #[tactic(auto, unfolding(step_rules::specs::Answers::int_line))]
@@ -20,44 +22,38 @@ fn nmi_line(b: Board) -> bool
 }
 
 // A refused step's answer: the record given, and its lines, which are off where it is not good.
-#[tactic(auto, unfolding(step_rules::specs::Answers::refused_answer))]
-pub(crate) fn refused(b: Board, number: u8) -> Answer
-    ensures { result ≡ refused_answer b number }
+#[tactic(auto, unfolding(step_rules::specs::Answers::refused_answer), using(crate::proofs::Answers::answered_number))]
+pub(crate) fn refused(b: Board, refusal: Refusal) -> Answer
+    ensures { result ≡ told (refused_answer b (number refusal)) }
 {
-    let int = int_line(b);
-    let nmi = nmi_line(b);
-    let known = !(number == 1);
+    let known = refusal != Refusal::BadRecord;
     Answer {
         board: b,
         reply: Reply {
-            byte: 0,
-            int: known & int,
-            nmi: known & nmi,
-            forwarded: false,
-            refusal: number,
+            outcome: Err(refusal),
+            int: known & int_line(b),
+            nmi: known & nmi_line(b),
         },
     }
 }
 
-// The answer of what a kind does: an NMI is shown once, and then the route is none.
-#[tactic(auto, unfolding(step_rules::specs::Answers::answer_of, step_rules::specs::Answers::nmi_shown))]
-pub(crate) fn with_interrupt_lines(e: Effect) -> Answer
-    ensures { result ≡ answer_of e }
+// An accepted step's answer: an NMI is shown once, and then the route is none.
+#[tactic(auto, unfolding(step_rules::specs::Answers::accepted_answer, step_rules::specs::Answers::nmi_shown, refusal::specs::Numbers::answered))]
+pub(crate) fn accepted(e: Effect) -> Answer
+    ensures { result ≡ told (accepted_answer e.board e.outcome) }
 {
-    let int = int_line(e.board);
-    let nmi = nmi_line(e.board);
-    let mut board = e.board.by_fields();
-    if nmi {
-        board.disc.route = 0;
-    }
+    let b = e.board;
+    let nmi = nmi_line(b);
+    let route = if nmi { 0 } else { b.disc.route };
     Answer {
-        board,
+        board: Board {
+            disc: Disc { route, ..b.disc },
+            ..b
+        },
         reply: Reply {
-            byte: e.outcome.byte,
-            int,
+            outcome: Ok(e.outcome),
+            int: int_line(b),
             nmi,
-            forwarded: e.outcome.forwarded,
-            refusal: e.refusal,
         },
     }
 }

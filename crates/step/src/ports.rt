@@ -1,19 +1,26 @@
 // What ports (document 01: channels) in and out do.
-ghost use Rattle.std.specs.Prelude.{◌≡◌, ◌≤◌};
-ghost use Rattle.step_rules.specs.Ports.{forwarded_out, status_byte};
+ghost use Rattle.std.specs.Prelude.{◌≡◌, List, ℕ};
+ghost use Rattle.step_rules.specs.Ports.{forwarded_in, forwarded_out, status_byte};
 ghost use Rattle.step_rules.specs.Answers.{step_effect};
-ghost use Rattle.step.specs.Plain.{plain_effect};
 
-use crate::effects::{accepts, forwards, gives, refuses};
-use board::Board;
-use step_rules::{Effect, Step};
+use crate::SILENT;
+use crate::lent::GoodBoard;
+use board::{Board, Clock};
+use refusal::Refusal;
+use step_rules::{Effect, Outcome, Step};
+
+// Forwarded, with no byte.
+const FORWARDED: Outcome = Outcome {
+    byte: 0,
+    forwarded: true,
+};
 
 // F8 as read: 64 in the flyback, 32 with the disc line on, 16 on 50 Hz, and the counter.
 #[tactic(auto, unfolding(step_rules::specs::Ports::status_byte))]
-fn status(b: Board) -> u8
-    requires { b.clock.counter ≤ 15 }
-    ensures { result ≡ status_byte b }
+fn status(good: GoodBoard) -> u8
+    ensures { result ≡ status_byte good.board }
 {
+    let b = good.board;
     let flyback = (b.clock.beam < 26) as u8;
     let disc = (b.disc.line == 1) as u8;
     let rate = (b.rate == 50) as u8;
@@ -25,50 +32,70 @@ fn status(b: Board) -> u8
 fn is_forwarded(port: u8) -> bool
     ensures { result ≡ forwarded_out port }
 {
-    match port {
-        0x01 => true,
-        0x80..=0xef => true,
-        0xfc..=0xfd => true,
-        _ => false,
-    }
+    matches!(port, 0x01 | 0x80..=0xef | 0xfc..=0xfd)
+}
+
+// Those in: 00 is too.
+#[tactic(auto, unfolding(step_rules::specs::Ports::forwarded_in))]
+fn is_forwarded_in(port: u8) -> bool
+    ensures { result ≡ forwarded_in port }
+{
+    (port == 0x00) | is_forwarded(port)
 }
 
 // F4 and F8 give one byte; F4 alone clears the counter.
-#[tactic(auto, unfolding(crate::specs::Plain::plain_effect, step_rules::specs::Answers::own_refusal, step_rules::specs::Answers::kind_refusal, step_rules::specs::Answers::state_refusal, step_rules::specs::Answers::stream_ended, step_rules::specs::Answers::step_outcome, board::specs::Record::first_refusal, step_rules::specs::Answers::port_in_outcome, step_rules::specs::Ports::decoded_in, step_rules::specs::Ports::forwarded_in))]
-pub(crate) fn port_in_effect(b: Board, port: u8, ram: &[u8], boot: &[u8]) -> Effect
-    requires { b.clock.counter ≤ 15 }
-    ensures { result ≡ plain_effect b ram.now boot.now (Step.PortIn port) }
+#[tactic(auto, using(crate::proofs::Effects::in_clears, crate::proofs::Effects::in_reads, crate::proofs::Effects::in_forwards, crate::proofs::Effects::in_none))]
+pub(crate) fn port_in(good: GoodBoard, port: u8) -> Result<Effect, Refusal>
+    ensures { (ram boot : List ℕ) → result ≡ step_effect good.board ram boot (Step.PortIn port) }
 {
+    let b = good.board;
     match port {
-        0x00 => forwards(b),
-        0xf4 | 0xf8 => {
-            let byte = status(b);
-            let mut after = b;
-            if port == 0xf4 {
-                after.clock.counter = 0;
-            }
-            gives(after, byte)
+        0xf4 => {
+            let byte = status(good);
+            Ok(Effect {
+                board: Board {
+                    clock: Clock {
+                        counter: 0,
+                        ..b.clock
+                    },
+                    ..b
+                },
+                outcome: Outcome { byte, ..SILENT },
+            })
         }
-        _ => {
-            if is_forwarded(port) {
-                forwards(b)
-            } else {
-                refuses(b, 5)
-            }
+        0xf8 => {
+            let byte = status(good);
+            Ok(Effect {
+                board: b,
+                outcome: Outcome { byte, ..SILENT },
+            })
         }
+        _ if is_forwarded_in(port) => Ok(Effect {
+            board: b,
+            outcome: FORWARDED,
+        }),
+        _ => Err(Refusal::NoPort),
     }
 }
 
-#[tactic(auto, using(crate::proofs::WritesAndPorts::out_register, crate::proofs::WritesAndPorts::out_none))]
-pub(crate) fn port_out_effect(b: Board, port: u8, value: u8, ram: &[u8], boot: &[u8]) -> Effect
-    ensures { result ≡ step_effect b ram.now boot.now (Step.PortOut port value) }
+#[tactic(auto, using(crate::proofs::Effects::out_register, crate::proofs::Effects::out_idle, crate::proofs::Effects::out_forwards, crate::proofs::Effects::out_none))]
+pub(crate) fn port_out(good: GoodBoard, port: u8, value: u8) -> Result<Effect, Refusal>
+    ensures { (ram boot : List ℕ) → result ≡ step_effect good.board ram boot (Step.PortOut port value) }
 {
-    if is_forwarded(port) {
-        return forwards(b);
-    }
+    let b = good.board;
     match port {
-        0xf0..=0xf8 => accepts(b.out(port, value)),
-        0xfa..=0xfb => accepts(b),
-        _ => refuses(b, 5),
+        0xf0..=0xf8 => Ok(Effect {
+            board: b.out(port, value),
+            outcome: SILENT,
+        }),
+        0xfa..=0xfb => Ok(Effect {
+            board: b,
+            outcome: SILENT,
+        }),
+        _ if is_forwarded(port) => Ok(Effect {
+            board: b,
+            outcome: FORWARDED,
+        }),
+        _ => Err(Refusal::NoPort),
     }
 }
