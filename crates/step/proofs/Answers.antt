@@ -1,18 +1,23 @@
 -- Refused or accepted: the answer, and the RAM that is left.
 use Rattle.std.proofs.Common.{ℕ, ◌≡◌, refl, sym, ◌∙◌, ap, Bool, true, false, cond, eqb, List, length}
 use borrow.Author.Tests.{eqb-true, eqb-false, eq-eqb, ne_eqb}
-use Rattle.std.specs.Prelude.{Result, Ok, Err}
+use Rattle.std.specs.Prelude.{Option, Result, Ok, Err}
 use Rattle.refusal.specs.declared.Refusal.{Refusal}
 use Rattle.refusal.specs.declared.Refusal.TheVariants.{BadRecord, BadLength, BadNumber, StreamEnded, NoPort, BadSizes, BadArchive, BadFrame, NoRoom}
 use Rattle.refusal.specs.Numbers.{number, named, answered}
+use Rattle.lineset.proofs.Sets.{Words}
 use Rattle.board.specs.declared.record.Board.{Board}
+use Rattle.board.proofs.Good.{good_counter, good_place}
 use Rattle.step_rules.specs.declared.Effect.{Effect}
 use Rattle.step_rules.specs.declared.Step.{Step}
 use Rattle.step_rules.specs.After.{board_after}
 use Rattle.step_rules.specs.Answers.{lent_refusal, step_refusal, step_outcome, accepted_answer, refused_answer, step_answer, step_ram, told, effect_of, step_effect, effect_ram}
+use Rattle.step_rules.specs.Decoding.{step_of, numbers_answer, numbers_ram}
 use Rattle.step_rules.proofs.After.{refused_ram}
-use Rattle.step_rules.proofs.Answers.{step_own, step_own_ram, step_lent}
+use Rattle.step_rules.proofs.Answers.{lent_good, step_own, step_own_ram, step_lent}
+use Rattle.step_rules.proofs.Decoding.{numbers_answer_lem, numbers_ram_lem}
 use Rattle.step_rules.proofs.Told.{step_known}
+use Rattle.step.specs.Checked.{Checked}
 
 -- an answer that is refused by a refusal's number is that refusal
 pub answered_number : {A : Type 0} (r : Refusal) (x : A) → answered (number r) x ≡ Err r
@@ -54,6 +59,12 @@ number_other NoRoom ne = refl
 
 some : (r : Refusal) (n : ℕ) → n ≡ number r → n ≡ 0 → ⊥
 some r n e = eqb-false n 0 (rw e (number_some r))
+
+-- what the kinds ask for
+pub checked : (b : Board) (ram boot : ℕ) → lent_refusal b ram boot ≡ 0 → Words b.dirty → Checked b
+checked b ram boot e w =
+    let g = lent_good b ram boot e in
+    record { counter = good_counter b g; place = good_place b g; words = w }
 
 module _ (b : Board) (ram boot : List ℕ) (s : Step) where
   -- record or buffers are refused
@@ -98,3 +109,10 @@ module _ (b : Board) (ram boot : List ℕ) (s : Step) where
       go false f k =
           let e : named (step_refusal b ram boot s) ≡ r = cc in
           ap (λ (n : ℕ). told (refused_answer b n)) (sym (step_known b ram boot s (eqb-false (step_refusal b ram boot s) 0 f)) ∙ ap number e)
+
+-- the same of a step by its numbers
+pub numbers_step : (b : Board) (ram boot : List ℕ) (d : Option Step) → numbers_answer b ram boot d ≡ step_answer b ram boot (step_of d)
+numbers_step b ram boot d = sym (numbers_answer_lem b ram boot d)
+
+pub numbers_left : (b : Board) (ram boot : List ℕ) (d : Option Step) → numbers_ram b ram boot d ≡ step_ram b ram boot (step_of d)
+numbers_left b ram boot d = sym (numbers_ram_lem b ram boot d)

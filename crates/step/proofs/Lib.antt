@@ -1,2 +1,2 @@
 mod Answers
-mod Effects
+mod Does

@@ -3,7 +3,7 @@ ghost use Rattle.std.specs.Prelude.{◌≡◌};
 ghost use Rattle.refusal.specs.Numbers.{number};
 ghost use Rattle.step_rules.specs.Answers.{int_line, nmi_line, accepted_answer, refused_answer, told};
 
-use board::{Board, Disc};
+use board::Board;
 use refusal::Refusal;
 use step_rules::{Answer, Effect, Reply};
 
@@ -42,17 +42,17 @@ pub(crate) fn refused(b: Board, refusal: Refusal) -> Answer
 pub(crate) fn accepted(e: Effect) -> Answer
     ensures { result ≡ told (accepted_answer e.board e.outcome) }
 {
-    let b = e.board;
-    let nmi = nmi_line(b);
-    let route = if nmi { 0 } else { b.disc.route };
+    let int = int_line(e.board);
+    let nmi = nmi_line(e.board);
+    let mut board = e.board.by_fields();
+    if nmi {
+        board.disc.route = 0;
+    }
     Answer {
-        board: Board {
-            disc: Disc { route, ..b.disc },
-            ..b
-        },
+        board,
         reply: Reply {
             outcome: Ok(e.outcome),
-            int: int_line(b),
+            int,
             nmi,
         },
     }
