@@ -1,5 +1,5 @@
 -- What a step's kinds may rely on once record and buffers are found good.
-use Rattle.std.specs.Prelude.{ℕ, ◌≤◌}
+use Rattle.std.specs.Prelude.{◌≤◌}
 use Rattle.lineset.proofs.Sets.{Words}
 use Rattle.board.specs.declared.record.Board.{Board}
 

@@ -1,5 +1,5 @@
-// What an accepted kind gives.
-ghost use Rattle.std.specs.Prelude.{◌≡◌, Ok};
+// What a kind gives. The record is copied by its fields, for speed.
+ghost use Rattle.std.specs.Prelude.{◌≡◌, Ok, Err};
 ghost use Rattle.step_rules.specs.Answers.{giving};
 
 use board::Board;
@@ -18,19 +18,29 @@ pub(crate) const FORWARDED: Outcome = Outcome {
     forwarded: true,
 };
 
-// The record handed on, with an outcome. It is copied by its fields, for speed.
-pub(crate) fn accept(board: Board, outcome: Outcome) -> Result<Effect, Refusal>
-    ensures { result ≡ Ok (record { board = board; outcome = outcome }) }
+// The record handed on, with an outcome.
+pub(crate) fn accept(board: Board, outcome: Outcome) -> Effect
+    ensures { result ≡ record { board = board; outcome = Ok outcome } }
 {
-    Ok(Effect {
+    Effect {
         board: board.by_fields(),
-        outcome,
-    })
+        outcome: Ok(outcome),
+    }
 }
 
 // The same with a byte.
-pub(crate) fn give(board: Board, byte: u8) -> Result<Effect, Refusal>
-    ensures { result ≡ Ok (record { board = board; outcome = giving byte }) }
+pub(crate) fn give(board: Board, byte: u8) -> Effect
+    ensures { result ≡ record { board = board; outcome = Ok (giving byte) } }
 {
     accept(board, Outcome { byte, ..SILENT })
+}
+
+// The record given, and a refusal.
+pub(crate) fn refuse(board: Board, refusal: Refusal) -> Effect
+    ensures { result ≡ record { board = board; outcome = Err refusal } }
+{
+    Effect {
+        board: board.by_fields(),
+        outcome: Err(refusal),
+    }
 }

@@ -3,9 +3,8 @@
 #![tactic(auto)]
 
 ghost use Rattle.std.specs.Prelude.{◌≡◌};
-ghost use Rattle.refusal.specs.Numbers.{answered};
-ghost use Rattle.step_rules.specs.Answers.{step_refusal, effect_of, step_effect, effect_ram, step_answer, step_ram, told};
-ghost use Rattle.step_rules.specs.Decoding.{decoded, step_of, numbers_answer, numbers_ram};
+ghost use Rattle.step_rules.specs.Answers.{step_effect, effect_ram, step_answer, step_ram, told};
+ghost use Rattle.step_rules.specs.Decoding.{decoded, numbers_answer, numbers_ram};
 ghost use Rattle.step.specs.Checked.{Checked};
 
 mod effects;
@@ -17,16 +16,15 @@ mod ports;
 use board::{Board, Disc};
 use effects::{SILENT, accept};
 use lent::check_lent;
-use lines::{accepted, refused};
+use lines::{refused, with_interrupt_lines};
 use memory::{fetch, key, read, write};
 use ports::{port_in, port_out};
-use refusal::Refusal;
 pub use step_rules::{Answer, Reply, Step};
 use step_rules::{Effect, decode_step};
 
 // What the kind does, once record and buffers are found good.
 #[tactic(auto, using(crate::proofs::Does::scan_does, crate::proofs::Does::disc_does, crate::proofs::Does::external_does, crate::proofs::Does::write_does, crate::proofs::Does::write_stores, crate::proofs::Does::ram_kept_by))]
-fn effect(b: Board, s: Step, ram: &mut [u8], boot: &[u8]) -> Result<Effect, Refusal>
+fn effect(b: Board, s: Step, ram: &mut [u8], boot: &[u8]) -> Effect
     requires { Checked b }
     ensures { (result ≡ step_effect b ram.old boot.now s) × (ram.new ≡ effect_ram b ram.old boot.now s) }
 {
@@ -50,42 +48,19 @@ fn effect(b: Board, s: Step, ram: &mut [u8], boot: &[u8]) -> Result<Effect, Refu
     }
 }
 
-// What the step does, or why it is refused.
-#[tactic(auto, using(crate::proofs::Answers::lent_refused, crate::proofs::Answers::lent_kept, crate::proofs::Answers::lent_effect, crate::proofs::Answers::lent_ram))]
-fn lent_effect(b: Board, s: Step, ram: &mut [u8], boot: &[u8]) -> Result<Effect, Refusal>
-    ensures { (result ≡ answered (step_refusal b ram.old boot.now s) (effect_of b ram.old boot.now s)) × (ram.new ≡ step_ram b ram.old boot.now s) }
-{
-    check_lent(b, ram.len(), boot.len())?;
-    effect(b, s, ram, boot)
-}
-
-#[tactic(auto, using(crate::proofs::Answers::told_accepted, crate::proofs::Answers::told_refused))]
+#[tactic(auto, using(crate::proofs::Answers::lent_refused, crate::proofs::Answers::lent_kept, crate::proofs::Answers::lent_answer, crate::proofs::Answers::lent_ram))]
 pub fn step(b: Board, s: Step, ram: &mut [u8], boot: &[u8]) -> Answer
     ensures { (result ≡ told (step_answer b ram.old boot.now s)) × (ram.new ≡ step_ram b ram.old boot.now s) }
 {
-    match lent_effect(b, s, ram, boot) {
-        Ok(e) => accepted(e),
-        Err(refusal) => refused(b, refusal),
+    if let Err(refusal) = check_lent(b, ram.len(), boot.len()) {
+        return refused(b, refusal);
     }
+    with_interrupt_lines(effect(b, s, ram, boot))
 }
 
-#[tactic(auto, using(crate::proofs::Answers::lent_refused, crate::proofs::Answers::lent_kept, crate::proofs::Answers::lent_effect, crate::proofs::Answers::lent_ram))]
-fn numbers_effect(
-    b: Board,
-    kind: u32,
-    number: u32,
-    value: u32,
-    ram: &mut [u8],
-    boot: &[u8],
-) -> Result<Effect, Refusal>
-    ensures { (result ≡ answered (step_refusal b ram.old boot.now (step_of (decoded kind number value))) (effect_of b ram.old boot.now (step_of (decoded kind number value)))) × (ram.new ≡ step_ram b ram.old boot.now (step_of (decoded kind number value))) }
-{
-    check_lent(b, ram.len(), boot.len())?;
-    effect(b, decode_step(kind, number, value), ram, boot)
-}
-
-// The step that a kind, a number and a value name.
-#[tactic(auto, using(crate::proofs::Answers::numbers_step, crate::proofs::Answers::numbers_left, crate::proofs::Answers::told_accepted, crate::proofs::Answers::told_refused))]
+// The step that a kind, a number and a value name. They are read only where record and buffers are found good, so that the kind leads
+// straight to what it does: decoded before the check, they cost a step 4 to 16 instructions.
+#[tactic(auto, using(crate::proofs::Answers::lent_refused, crate::proofs::Answers::lent_kept, crate::proofs::Answers::lent_answer, crate::proofs::Answers::lent_ram, crate::proofs::Answers::numbers_step, crate::proofs::Answers::numbers_left))]
 pub fn step_by_numbers(
     b: Board,
     kind: u32,
@@ -96,8 +71,9 @@ pub fn step_by_numbers(
 ) -> Answer
     ensures { (result ≡ told (numbers_answer b ram.old boot.now (decoded kind number value))) × (ram.new ≡ numbers_ram b ram.old boot.now (decoded kind number value)) }
 {
-    match numbers_effect(b.by_fields(), kind, number, value, ram, boot) {
-        Ok(e) => accepted(e),
-        Err(refusal) => refused(b, refusal),
+    let c = b.by_fields();
+    if let Err(refusal) = check_lent(c, ram.len(), boot.len()) {
+        return refused(c, refusal);
     }
+    with_interrupt_lines(effect(c, decode_step(kind, number, value), ram, boot))
 }

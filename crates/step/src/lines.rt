@@ -1,7 +1,7 @@
 // A step's answer with its interrupt lines: of what a kind does, or of a refusal.
 ghost use Rattle.std.specs.Prelude.{◌≡◌};
 ghost use Rattle.refusal.specs.Numbers.{number};
-ghost use Rattle.step_rules.specs.Answers.{int_line, nmi_line, accepted_answer, refused_answer, told};
+ghost use Rattle.step_rules.specs.Answers.{int_line, nmi_line, refused_answer, told, answer_of};
 
 use board::Board;
 use refusal::Refusal;
@@ -37,10 +37,10 @@ pub(crate) fn refused(b: Board, refusal: Refusal) -> Answer
     }
 }
 
-// An accepted step's answer: an NMI is shown once, and then the route is none.
-#[tactic(auto, unfolding(step_rules::specs::Answers::accepted_answer, step_rules::specs::Answers::nmi_shown, refusal::specs::Numbers::answered))]
-pub(crate) fn accepted(e: Effect) -> Answer
-    ensures { result ≡ told (accepted_answer e.board e.outcome) }
+// The answer of what a kind does: an NMI is shown once, and then the route is none.
+#[tactic(auto, unfolding(step_rules::specs::Answers::answer_of, step_rules::specs::Answers::nmi_shown))]
+pub(crate) fn with_interrupt_lines(e: Effect) -> Answer
+    ensures { result ≡ answer_of e }
 {
     let int = int_line(e.board);
     let nmi = nmi_line(e.board);
@@ -51,7 +51,7 @@ pub(crate) fn accepted(e: Effect) -> Answer
     Answer {
         board,
         reply: Reply {
-            outcome: Ok(e.outcome),
+            outcome: e.outcome,
             int,
             nmi,
         },

@@ -5,7 +5,7 @@ ghost use Rattle.step_rules.specs.After.{board_after, ram_after};
 ghost use Rattle.step_rules.specs.Answers.{step_effect, effect_ram};
 ghost use Rattle.step.specs.Checked.{Checked};
 
-use crate::effects::{SILENT, accept, give};
+use crate::effects::{SILENT, accept, give, refuse};
 use board::{Board, Boot};
 use paging::{byte_at, index, keyboard_index};
 use refusal::Refusal;
@@ -21,7 +21,7 @@ fn read_byte(b: Board, address: u16, ram: &[u8]) -> u8
 }
 
 #[tactic(auto, using(crate::proofs::Does::read_does))]
-pub(crate) fn read(b: Board, address: u16, ram: &[u8]) -> Result<Effect, Refusal>
+pub(crate) fn read(b: Board, address: u16, ram: &[u8]) -> Effect
     requires { Checked b }
     ensures { (boot : List ℕ) → result ≡ step_effect b ram.now boot (Step.Read address) }
 {
@@ -31,7 +31,7 @@ pub(crate) fn read(b: Board, address: u16, ram: &[u8]) -> Result<Effect, Refusal
 
 // In boot mode the stream's next byte, else the byte read.
 #[tactic(auto, using(crate::proofs::Does::fetch_reads, crate::proofs::Does::fetch_ends, crate::proofs::Does::fetch_takes))]
-pub(crate) fn fetch(b: Board, address: u16, ram: &[u8], boot: &[u8]) -> Result<Effect, Refusal>
+pub(crate) fn fetch(b: Board, address: u16, ram: &[u8], boot: &[u8]) -> Effect
     requires { Checked b }
     ensures { result ≡ step_effect b ram.now boot.now (Step.Fetch address) }
 {
@@ -39,7 +39,9 @@ pub(crate) fn fetch(b: Board, address: u16, ram: &[u8], boot: &[u8]) -> Result<E
         let byte = read_byte(b, address, ram);
         return give(b, byte);
     }
-    let byte = *boot.get(b.boot.at as usize).ok_or(Refusal::StreamEnded)?;
+    let Some(&byte) = boot.get(b.boot.at as usize) else {
+        return refuse(b, Refusal::StreamEnded);
+    };
     let after = Board {
         boot: Boot {
             at: b.boot.at + 1,
@@ -61,7 +63,7 @@ fn put(ram: &mut [u8], at: usize, value: u8)
 
 // No line is drawn from a block past 7. The lines are marked by the block that is written, not by the one that is read.
 #[tactic(auto, unfolding(step_rules::specs::After::board_after, paging::specs::Memory::write_index, paging::specs::Memory::reach_of), using(crate::proofs::Does::past_marks, crate::proofs::Does::write_does, crate::proofs::Does::write_stores))]
-pub(crate) fn write(b: Board, address: u16, value: u8, ram: &mut [u8]) -> Result<Effect, Refusal>
+pub(crate) fn write(b: Board, address: u16, value: u8, ram: &mut [u8]) -> Effect
     requires { Checked b }
     ensures { (boot : List ℕ) → (result ≡ step_effect b ram.old boot (Step.Write address value)) × (ram.new ≡ effect_ram b ram.old boot (Step.Write address value)) }
 {
@@ -79,11 +81,11 @@ pub(crate) fn write(b: Board, address: u16, value: u8, ram: &mut [u8]) -> Result
 
 // A byte from the keyboard, at an offset from 0 to 15.
 #[tactic(auto, using(crate::proofs::Does::key_refused, crate::proofs::Does::key_keeps, crate::proofs::Does::key_does, crate::proofs::Does::key_stores))]
-pub(crate) fn key(b: Board, offset: u8, value: u8, ram: &mut [u8]) -> Result<Effect, Refusal>
+pub(crate) fn key(b: Board, offset: u8, value: u8, ram: &mut [u8]) -> Effect
     ensures { (boot : List ℕ) → (result ≡ step_effect b ram.old boot (Step.Key offset value)) × (ram.new ≡ effect_ram b ram.old boot (Step.Key offset value)) }
 {
     if offset > 15 {
-        return Err(Refusal::BadNumber);
+        return refuse(b, Refusal::BadNumber);
     }
     let keyed = b.key(ram, offset, value);
     put(ram, keyboard_index(offset), value);

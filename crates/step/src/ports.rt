@@ -4,7 +4,7 @@ ghost use Rattle.step_rules.specs.Ports.{forwarded_in, forwarded_out, status_byt
 ghost use Rattle.step_rules.specs.Answers.{step_effect};
 ghost use Rattle.step.specs.Checked.{Checked};
 
-use crate::effects::{FORWARDED, SILENT, accept, give};
+use crate::effects::{FORWARDED, SILENT, accept, give, refuse};
 use board::{Board, Clock};
 use refusal::Refusal;
 use step_rules::{Effect, Step};
@@ -39,7 +39,7 @@ fn is_forwarded_in(port: u8) -> bool
 
 // F4 and F8 give one byte; F4 alone clears the counter.
 #[tactic(auto, using(crate::proofs::Does::in_clears, crate::proofs::Does::in_reads, crate::proofs::Does::in_forwards, crate::proofs::Does::in_none))]
-pub(crate) fn port_in(b: Board, port: u8) -> Result<Effect, Refusal>
+pub(crate) fn port_in(b: Board, port: u8) -> Effect
     requires { Checked b }
     ensures { (ram boot : List ℕ) → result ≡ step_effect b ram boot (Step.PortIn port) }
 {
@@ -57,12 +57,12 @@ pub(crate) fn port_in(b: Board, port: u8) -> Result<Effect, Refusal>
         }
         0xf8 => give(b, status(b)),
         _ if is_forwarded_in(port) => accept(b, FORWARDED),
-        _ => Err(Refusal::NoPort),
+        _ => refuse(b, Refusal::NoPort),
     }
 }
 
 #[tactic(auto, using(crate::proofs::Does::out_register, crate::proofs::Does::out_idle, crate::proofs::Does::out_forwards, crate::proofs::Does::out_none))]
-pub(crate) fn port_out(b: Board, port: u8, value: u8) -> Result<Effect, Refusal>
+pub(crate) fn port_out(b: Board, port: u8, value: u8) -> Effect
     requires { Checked b }
     ensures { (ram boot : List ℕ) → result ≡ step_effect b ram boot (Step.PortOut port value) }
 {
@@ -70,6 +70,6 @@ pub(crate) fn port_out(b: Board, port: u8, value: u8) -> Result<Effect, Refusal>
         0xf0..=0xf8 => accept(b.out(port, value), SILENT),
         0xfa..=0xfb => accept(b, SILENT),
         _ if is_forwarded(port) => accept(b, FORWARDED),
-        _ => Err(Refusal::NoPort),
+        _ => refuse(b, Refusal::NoPort),
     }
 }

@@ -1,5 +1,5 @@
 -- A refusal's number is 1 just where the record is not good.
-use Rattle.std.proofs.Common.{◌≡◌, refl, sym, ◌∙◌, ap, Bool, not, eqb}
+use Rattle.std.proofs.Common.{◌≡◌, refl, eqb}
 use denote.Enum.Bare.{sameb}
 use Rattle.refusal.specs.contracts.Refusal.{the_type}
 use Rattle.refusal.specs.declared.Refusal.{Refusal}
