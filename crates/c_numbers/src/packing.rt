@@ -20,6 +20,7 @@ pub const FLOATING: u8 = 8;
 
 pub const FOUND: u8 = 16;
 
+// C is given one number, by the rule `reply`.
 #[tactic(auto, unfolding(crate::specs::Packing::reply))]
 fn packed(value: u16, flags: u8, refusal: u8, more: u16) -> u64
     ensures { result ≡ reply value flags refusal more }
