@@ -9,12 +9,12 @@ use Rattle.scanline.specs.Drawing.{picture_fits}
 use mathlib.Core.List.{List}
 use borrow.Author.Tests.{ltb-true, ltb-false, eq-eqb, ne_eqb}
 use lib.Dec.{eqb, ltb}
-use lib.ListN.{get_or, drop, length, length-take}
+use lib.ListN.{get_or, drop, length}
 use lib.Seq.{get_or-take, get_or-drop}
 use Rattle.std.specs.List.{between}
 use Rattle.panel.specs.Widen.{pixel_of, pixel_in}
 use Rattle.std.specs.Prelude.{None, Some}
-use Rattle.picture_compare.specs.Differences.{FirstUnlike, first_pixel, first_difference, difference_answer}
+use Rattle.picture_compare.specs.Differences.{first_pixel, first_difference}
 
 -- ---- the first of some pixels
 
@@ -47,9 +47,6 @@ Alike a b n = (m : ℕ) → m < n → get_or a m 0 ≡ get_or b m 0
 -- 720 bytes of a picture from byte n on
 part_at : (xs : List ℕ) (n k : ℕ) → k < 720 → get_or (between n (n + 720) xs) k 0 ≡ get_or xs (n + k) 0
 part_at xs n k l = get_or-take (n + 720 - n) (drop n xs) k 0 (omega arith) ∙ get_or-drop n xs k 0
-
-part_within : (xs : List ℕ) (n i : ℕ) → i < length (between n (n + 720) xs) → i < 720
-part_within xs n i l = omega (arith, length-take (n + 720 - n) (drop n xs))
 
 module _ (a b : List ℕ) where
   -- pixel k of byte m
@@ -87,50 +84,48 @@ module _ (a b : List ℕ) where
           let e : m ≡ n + (m - n) = omega arith in
           rw e (l (m - n) (omega arith))
 
+  -- the next byte of a line, the next line, and the next eight
+  pub alike_next : (L i : ℕ) → Alike a b (L * 90 + i) → get_or a (L * 90 + i) 0 ≡ get_or b (L * 90 + i) 0 → Alike a b (L * 90 + (i + 1))
+  alike_next L i h e =
+      let z : L * 90 + (i + 1) ≡ L * 90 + i + 1 = omega arith in
+      rw z (alike_on (L * 90 + i) 1 h (λ k m. let k0 : k ≡ 0 = omega arith in rw (k0, add-zero) e))
+
+  pub alike_line : (L i : ℕ) → i ≡ 90 → Alike a b (L * 90 + i) → Alike a b ((L + 1) * 90)
+  alike_line L i e h = let z : (L + 1) * 90 ≡ L * 90 + i = omega arith in rw z h
+
+  pub alike_eight : (L : ℕ) → Alike a b (L * 90) → between (L * 90) (L * 90 + 720) a ≡ between (L * 90) (L * 90 + 720) b → Alike a b ((L + 8) * 90)
+  alike_eight L h q =
+      let z : (L + 8) * 90 ≡ L * 90 + 720 = omega arith in
+      rw z
+      (alike_on (L * 90) 720 h
+      (λ k m. sym (part_at a (L * 90) k m) ∙ ap (λ (xs : List ℕ). get_or xs k 0) q ∙ part_at b (L * 90) k m))
+
   pub position_same : Alike a b 23040 → None ≡ first_difference a b
   unfolding first_difference differs
   position_same h = sym (first_same (differs a b) 0 184320 (λ i l. rw zero-add (pixels_same 23040 i h (omega arith))))
 
-  -- byte n is the first that differs, and k its first pixel that does
-  module _ (n k : ℕ) (hn : n < 23040) (hk : k < 8) (h : Alike a b n)
-      (left : (j : ℕ) → j < k → pixel_of (get_or a n 0) j ≡ pixel_of (get_or b n 0) j)
-      (here : pixel_of (get_or a n 0) k ≡ pixel_of (get_or b n 0) k → ⊥) where
-    before : (j : ℕ) → j < 8 * n + k → differs a b j ≡ false
-    before j l = go (ltb (j / 8) n) refl
+  -- byte i of a line is the first that differs, and k its first pixel that does
+  module _ (L i k : ℕ) (h_l : L < 256) (hi : i < 90) (hk : k < 8) (h : Alike a b (L * 90 + i))
+      (left : (j : ℕ) → j < k → pixel_of (get_or a (L * 90 + i) 0) j ≡ pixel_of (get_or b (L * 90 + i) 0) j)
+      (here : pixel_of (get_or a (L * 90 + i) 0) k ≡ pixel_of (get_or b (L * 90 + i) 0) k → ⊥) where
+    before : (j : ℕ) → j < 8 * (L * 90 + i) + k → differs a b j ≡ false
+    before j l = go (ltb (j / 8) (L * 90 + i)) refl
       where
-        go : (t : Bool) → ltb (j / 8) n ≡ t → differs a b j ≡ false
-        go true q = pixels_same n j h (ltb-true (j / 8) n q)
+        go : (t : Bool) → ltb (j / 8) (L * 90 + i) ≡ t → differs a b j ≡ false
+        go true q = pixels_same (L * 90 + i) j h (ltb-true (j / 8) (L * 90 + i) q)
         go false q =
-            let ge = ltb-false (j / 8) n q in
-            let e : j ≡ 8 * n + (j - 8 * n) = omega arith in
-            rw e (pixel_same n (j - 8 * n) (omega arith) (left (j - 8 * n) (omega arith)))
+            let ge = ltb-false (j / 8) (L * 90 + i) q in
+            let e : j ≡ 8 * (L * 90 + i) + (j - 8 * (L * 90 + i)) = omega arith in
+            rw e (pixel_same (L * 90 + i) (j - 8 * (L * 90 + i)) (omega arith) (left (j - 8 * (L * 90 + i)) (omega arith)))
 
-    pub position_found : Some (record { line = n / 90; pixel = 8 * (n % 90) + k }) ≡ first_difference a b
+    pub position_found : Some (record { line = L; pixel = 8 * i + k }) ≡ first_difference a b
     unfolding first_difference differs
     position_found =
-        let d : (8 * n + k) / 720 ≡ n / 90 = omega arith in
-        let r : (8 * n + k) % 720 ≡ 8 * (n % 90) + k = omega arith in
+        let d : (8 * (L * 90 + i) + k) / 720 ≡ L = omega arith in
+        let r : (8 * (L * 90 + i) + k) % 720 ≡ 8 * i + k = omega arith in
         sym
-        (first_found (differs a b) 0 184320 (8 * n + k) (omega arith) (λ j l. rw zero-add (before j l)) (rw zero-add (pixel_other n k hk here))
+        (first_found (differs a b) 0 184320 (8 * (L * 90 + i) + k) (omega arith) (λ j l. rw zero-add (before j l)) (rw zero-add (pixel_other (L * 90 + i) k hk here))
         ∙ rw (zero-add, d, r))
-
-  -- the eight lines from a byte on: all the same, or byte i of them the first that differs, and k its first pixel that does
-  module _ (eight : ℕ) (h : Alike a b (720 * eight)) where
-    pub eight_same : between (720 * eight) (720 * eight + 720) a ≡ between (720 * eight) (720 * eight + 720) b → Alike a b (720 * (eight + 1))
-    eight_same q =
-        let z : 720 * (eight + 1) ≡ 720 * eight + 720 = omega arith in
-        rw z
-        (alike_on (720 * eight) 720 h
-        (λ k m. sym (part_at a (720 * eight) k m) ∙ ap (λ (xs : List ℕ). get_or xs k 0) q ∙ part_at b (720 * eight) k m))
-
-    pub eight_found : (i k : ℕ) → eight < 32 → FirstUnlike (between (720 * eight) (720 * eight + 720) a) (between (720 * eight) (720 * eight + 720) b) i
-        → (k < 8) × (((j : ℕ) → j < k → pixel_of (get_or a (720 * eight + i) 0) j ≡ pixel_of (get_or b (720 * eight + i) 0) j) × (pixel_of (get_or a (720 * eight + i) 0) k ≡ pixel_of (get_or b (720 * eight + i) 0) k → ⊥))
-        → Some (record { line = (720 * eight + i) / 90; pixel = 8 * ((720 * eight + i) % 90) + k }) ≡ first_difference a b
-    eight_found i k l f p =
-        let w : i < 720 = part_within a (720 * eight) i f.0 in
-        position_found (720 * eight + i) k (omega arith) p.0
-        (alike_on (720 * eight) i h (λ j m. sym (part_at a (720 * eight) j (omega arith)) ∙ f.1.0 j m ∙ part_at b (720 * eight) j (omega arith)))
-        p.1.0 p.1.1
 
   -- the second picture has a wrong length
   pub second_unfit : (length b ≡ 23040 → ⊥) → (picture_fits (length a) && picture_fits (length b)) ≡ false

@@ -1,9 +1,9 @@
 // The first place where two pictures differ.
 #![tactic(auto)]
 
-ghost use Rattle.std.specs.Prelude.{◌≡◌, ◌≢◌, None, ℕ, ◌<◌, IfErr, MatchOption, length};
+ghost use Rattle.std.specs.Prelude.{◌≡◌, ◌≢◌, true, None, ℕ, ◌<◌, IfErr, length};
 ghost use Rattle.panel.specs.Widen.{pixel_of};
-ghost use Rattle.picture_compare.specs.Differences.{FirstUnlike, first_difference, difference_answer};
+ghost use Rattle.picture_compare.specs.Differences.{first_difference, difference_answer};
 ghost use Rattle.refusal.specs.Numbers.{answered};
 
 use refusal::Refusal;
@@ -24,36 +24,50 @@ fn unequal_pixel(x: u8, y: u8) -> u16
     (x ^ y).leading_zeros() as u16
 }
 
-// The first byte in which two rows differ. Rows that are the same are passed over at once: `==` takes many bytes a turn, and the search
-// for the byte one.
-fn unequal_byte(a: &[u8], b: &[u8]) -> Option<usize>
+// Whether two rows are the same: `==` takes many bytes a turn.
+fn same(a: &[u8], b: &[u8]) -> bool
     requires { length a.now ≡ length b.now }
-    ensures { MatchOption result (a.now ≡ b.now) (λ i. FirstUnlike a.now b.now i) }
+    ensures { result ≡ true → a.now ≡ b.now }
 {
-    if a == b {
-        return None;
-    }
-    a.iter().zip(b).position(|(x, y)| x != y)
+    a == b
 }
 
-// Eight lines, 720 bytes, at a time.
-#[tactic(auto, using(crate::proofs::Differences::alike_none, crate::proofs::Differences::eight_same, crate::proofs::Differences::eight_found, crate::proofs::Differences::position_same))]
+// Lines outside, bytes inside; the search is left by the label at the first unequal byte. Line and byte are read behind it, so both are
+// counted by hand. Eight lines that are the same are passed over at once.
+#[tactic(auto, using(crate::proofs::Differences::alike_none, crate::proofs::Differences::alike_next, crate::proofs::Differences::alike_line, crate::proofs::Differences::alike_eight, crate::proofs::Differences::position_same))]
 fn unequal_position(a: &[u8; 23040], b: &[u8; 23040]) -> Option<Position>
     ensures { result ≡ first_difference a.now b.now }
 {
-    for eight in 0..32 {
-        let at = 720 * eight;
-        let end = at + 720;
-        if let Some(i) = unequal_byte(&a[at..end], &b[at..end]) {
-            let byte = at + i;
-            let pixel = unequal_pixel(a[byte], b[byte]);
-            return Some(Position {
-                line: (byte / 90) as u8,
-                pixel: 8 * (byte % 90) as u16 + pixel,
-            });
+    let mut line: usize = 0;
+    let mut i: usize = 0;
+    'lines: loop {
+        if line == 256 {
+            return None;
         }
+        if line % 8 == 0 {
+            let first = line * 90;
+            let end = first + 720;
+            if same(&a[first..end], &b[first..end]) {
+                line += 8;
+                continue;
+            }
+        }
+        i = 0;
+        while i < 90 {
+            let at = line * 90 + i;
+            if a[at] != b[at] {
+                break 'lines;
+            }
+            i += 1;
+        }
+        line += 1;
     }
-    None
+    let at = line * 90 + i;
+    let k = unequal_pixel(a[at], b[at]);
+    Some(Position {
+        line: line as u8,
+        pixel: 8 * i as u16 + k,
+    })
 }
 
 // The first place where two pictures differ, if there is one.
