@@ -50,13 +50,6 @@ impl Board {
     pub fn key(self, ram: &[u8], offset: u8, value: u8) -> Board
         ensures { result ≡ with_marks self ram.now self (set ram.now (keyboard_index offset) value) }
     {
-        let index = keyboard_index(offset);
-        if is_unmarked(ram, index, value) {
-            return self;
-        }
-        if index >= ram.len() {
-            return self;
-        }
-        self.mark(touched(ram, self.video.table, self.video.top, index))
+        self.store(ram, keyboard_index(offset), value)
     }
 }
