@@ -9,10 +9,5 @@ ghost use Rattle.roll.specs.Roll.{roll_of};
 pub fn roll(old: u8, new: u8) -> i8
     ensures { result ≡ roll_of old new }
 {
-    let d = (new as u16 + 256 - old as u16) % 256;
-    if d < 128 {
-        d as i8
-    } else {
-        (d as i16 - 256) as i8
-    }
+    new.wrapping_sub(old).cast_signed()
 }
