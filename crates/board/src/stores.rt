@@ -43,7 +43,7 @@ impl Board {
         if at >= ram.len() {
             return self;
         }
-        self.mark(touched(ram, self.video.table, self.video.top, at))
+        self.mark(touched(ram, self.video, at))
     }
 
     // A byte to be stored from the keyboard, at its offset.
