@@ -13,10 +13,10 @@ impl Board {
     pub fn scan(self) -> Board
         ensures { result ≡ with_clock self (scanned self.rate self.clock) }
     {
-        Board {
-            clock: self.clock.next(self.rate),
-            ..self
-        }
+        let clock = self.clock;
+        let mut b = self;
+        b.clock = clock.next(self.rate);
+        b
     }
 
     // Command 1: as at power-on, but sizes, rate, maps, lock, F5, F6, beam, lines and dirty lines stay.

@@ -46,10 +46,18 @@ impl Board {
         self.mark(touched(ram, self.video, at))
     }
 
-    // A byte to be stored from the keyboard, at its offset.
+    // A byte to be stored from the keyboard, at its offset. It is `store` in full: called from here too, `store` is no longer made part of
+    // a write, and each write takes up to 140 instructions more.
     pub fn key(self, ram: &[u8], offset: u8, value: u8) -> Board
         ensures { result ≡ with_marks self ram.now self (set ram.now (keyboard_index offset) value) }
     {
-        self.store(ram, keyboard_index(offset), value)
+        let index = keyboard_index(offset);
+        if is_unmarked(ram, index, value) {
+            return self;
+        }
+        if index >= ram.len() {
+            return self;
+        }
+        self.mark(touched(ram, self.video, index))
     }
 }
