@@ -1,4 +1,5 @@
-// The board's record (document 01: the record). Every field is a number, so that every bit pattern is a record, good or not.
+// The board's record (document 01: the record). It is C's, laid out as C does: every field is a number, since every bit pattern that C
+// lends is a record, good or not.
 use lineset::LineSet;
 use paging::{Paging, Sizes};
 use scanline::Video;

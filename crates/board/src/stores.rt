@@ -43,10 +43,11 @@ impl Board {
         if at >= ram.len() {
             return self;
         }
-        self.mark(touched(ram, self.video.table, self.video.top, at))
+        self.mark(touched(ram, self.video, at))
     }
 
-    // A byte to be stored from the keyboard, at its offset.
+    // A byte to be stored from the keyboard, at its offset. It is `store` in full: called from here too, `store` is no longer made part of
+    // a write, and each write takes up to 140 instructions more.
     pub fn key(self, ram: &[u8], offset: u8, value: u8) -> Board
         ensures { result ≡ with_marks self ram.now self (set ram.now (keyboard_index offset) value) }
     {
@@ -57,6 +58,6 @@ impl Board {
         if index >= ram.len() {
             return self;
         }
-        self.mark(touched(ram, self.video.table, self.video.top, index))
+        self.mark(touched(ram, self.video, index))
     }
 }
