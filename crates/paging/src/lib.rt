@@ -2,10 +2,8 @@
 #![tactic(auto)]
 
 ghost use Rattle.std.specs.Prelude.{◌≡◌, get_or};
-ghost use Rattle.paging.specs.Maps.{ram_fits, map_read, map_write};
-ghost use Rattle.paging.specs.Maps.{allowed, expansion};
-ghost use Rattle.paging.specs.Memory.{bank_of, read_block, write_block, reach_of, index_of, keyboard_index};
-ghost use Rattle.paging.specs.Memory.{locked};
+ghost use Rattle.paging.specs.Maps.{allowed, ram_fits, expansion, map_read, map_write};
+ghost use Rattle.paging.specs.Memory.{reach_of, index_of, keyboard_index, locked};
 
 // Memory sizes in 16K blocks: internal, and internal with expansion.
 #[repr(C)]
@@ -36,11 +34,7 @@ impl Sizes {
     pub fn allowed(self) -> bool
         ensures { result ≡ allowed self }
     {
-        let internal = self.internal;
-        match internal {
-            8 | 16 | 32 => internal <= self.total && self.total <= 128,
-            _ => false,
-        }
+        matches!(self.internal, 8 | 16 | 32) && (self.internal..=128).contains(&self.total)
     }
 
     // Whether a RAM of so many bytes is of these sizes.
@@ -50,89 +44,66 @@ impl Sizes {
     {
         length == self.total as usize * 16384
     }
-}
 
-// The block of a map byte with D7 set; with no internal memory there is none to take its place.
-#[tactic(auto, unfolding(crate::specs::Maps::expansion))]
-fn expansion(sizes: Sizes, map: u8) -> u8
-    ensures { result ≡ expansion sizes map }
-{
-    let e = map % 128;
-    if e < sizes.total {
-        return e;
+    // The block of a map byte with D7 set; with no internal memory there is none to take its place.
+    #[tactic(auto, unfolding(crate::specs::Maps::expansion))]
+    fn expansion(self, map: u8) -> u8
+        ensures { result ≡ expansion self map }
+    {
+        let e = map % 128;
+        if e < self.total {
+            return e;
+        }
+        e.checked_rem(self.internal).unwrap_or(e)
     }
-    if sizes.internal == 0 {
-        return e;
+
+    // The block that a write by a map byte reaches.
+    #[tactic(auto, unfolding(crate::specs::Maps::map_write))]
+    pub fn map_write(self, map: u8) -> u8
+        ensures { result ≡ map_write self map }
+    {
+        if map < 128 {
+            return map % 8;
+        }
+        self.expansion(map)
     }
-    e % sizes.internal
-}
 
-#[tactic(auto, unfolding(crate::specs::Maps::map_write))]
-pub fn map_write(sizes: Sizes, map: u8) -> u8
-    ensures { result ≡ map_write sizes map }
-{
-    if map < 128 {
-        return map % 8;
-    }
-    expansion(sizes, map)
-}
-
-#[tactic(auto, unfolding(crate::specs::Maps::map_read))]
-pub fn map_read(sizes: Sizes, locked: bool, map: u8) -> u8
-    ensures { result ≡ map_read sizes locked map }
-{
-    if map >= 128 {
-        return expansion(sizes, map);
-    }
-    if locked { map % 8 } else { map / 16 % 8 }
-}
-
-#[tactic(auto, unfolding(crate::specs::Memory::bank_of))]
-fn bank(address: u16) -> u8
-    ensures { result ≡ bank_of address }
-{
-    (address / 16384) as u8
-}
-
-// The lock bit of a bank: D7 bank C000h, D6 0000h, D5 8000h, D4 4000h.
-#[tactic(auto, unfolding(crate::specs::Memory::locked, crate::specs::Memory::lock_weight))]
-fn locked(lock: u8, bank: u8) -> bool
-    ensures { result ≡ locked lock bank }
-{
-    match bank {
-        0 => lock / 64 % 2 == 1,
-        1 => lock / 16 % 2 == 1,
-        2 => lock / 32 % 2 == 1,
-        3 => lock / 128 % 2 == 1,
-        _ => false,
+    // The block that a read by a map byte reaches.
+    #[tactic(auto, unfolding(crate::specs::Maps::map_read))]
+    pub fn map_read(self, locked: bool, map: u8) -> u8
+        ensures { result ≡ map_read self locked map }
+    {
+        if map >= 128 {
+            return self.expansion(map);
+        }
+        if locked { map % 8 } else { map / 16 % 8 }
     }
 }
 
 impl Paging {
-    #[tactic(auto, unfolding(crate::specs::Memory::read_block, crate::specs::Memory::bank_of))]
-    fn read_block(self, sizes: Sizes, address: u16) -> u8
-        ensures { result ≡ read_block sizes self address }
+    // The lock bit of a bank: D7 bank C000h, D6 0000h, D5 8000h, D4 4000h.
+    #[tactic(auto, unfolding(crate::specs::Memory::locked, crate::specs::Memory::lock_weight))]
+    fn locked(self, bank: usize) -> bool
+        ensures { result ≡ locked self.lock bank }
     {
-        let b = bank(address);
-        let at = b as usize;
-        map_read(sizes, locked(self.lock, b), self.maps[at])
+        match bank {
+            0 => self.lock / 64 % 2 == 1,
+            1 => self.lock / 16 % 2 == 1,
+            2 => self.lock / 32 % 2 == 1,
+            3 => self.lock / 128 % 2 == 1,
+            _ => false,
+        }
     }
 
-    #[tactic(auto, unfolding(crate::specs::Memory::write_block, crate::specs::Memory::bank_of))]
-    fn write_block(self, sizes: Sizes, address: u16) -> u8
-        ensures { result ≡ write_block sizes self address }
-    {
-        let at = bank(address) as usize;
-        map_write(sizes, self.maps[at])
-    }
-
-    #[tactic(auto, unfolding(crate::specs::Memory::reach_of, crate::specs::Memory::place_of))]
+    #[tactic(auto, unfolding(crate::specs::Memory::reach_of, crate::specs::Memory::read_block, crate::specs::Memory::write_block, crate::specs::Memory::bank_of, crate::specs::Memory::place_of))]
     pub fn reach(self, sizes: Sizes, address: u16) -> Reach
         ensures { result ≡ reach_of sizes self address }
     {
+        let bank = (address / 16384) as usize;
+        let map = self.maps[bank];
         Reach {
-            read: self.read_block(sizes, address),
-            write: self.write_block(sizes, address),
+            read: sizes.map_read(self.locked(bank), map),
+            write: sizes.map_write(map),
             place: address % 16384,
         }
     }
@@ -150,12 +121,12 @@ pub fn index(block: u8, place: u16) -> usize
 pub fn keyboard_index(offset: u8) -> usize
     ensures { result ≡ keyboard_index offset }
 {
-    3 * 16384 + (0x3FF0 + offset as usize)
+    index(3, 0x3FF0 + offset as u16)
 }
 
 // The byte at an index of the RAM; 0 past its end.
 pub fn byte_at(ram: &[u8], at: usize) -> u8
     ensures { result ≡ get_or ram.now at 0 }
 {
-    if at < ram.len() { ram[at] } else { 0 }
+    ram.get(at).copied().unwrap_or(0)
 }

@@ -8,4 +8,4 @@ pub returns : goal.returns
 returns c =
     let ws : Words c.args.self = words_of (search rules) (λ j. search rules) in
     let wo : Words c.args.other = words_of (search rules) (λ j. search rules) in
-    and_words c.args.self c.args.other ws wo
+    and_words c.args.self c.args.other c.by_words.result ws wo (search rules) (λ j l. search rules)
