@@ -46,7 +46,7 @@ impl<'a> Archive<'a> {
     pub fn find(&self, pair: Pair) -> Option<u32>
         ensures { result ≡ first_of (has_pair (frame_at self.now.layout.bytes.now) pair.bench pair.number) 0 (count_of self.now.layout.bytes.now) }
     {
-        let k = unique::find(self.layout.rows(), pair)?;
+        let k = unique::index_of(self.layout.rows(), pair)?;
         Some(k as u32)
     }
 }

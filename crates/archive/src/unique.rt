@@ -11,7 +11,7 @@ use crate::layout::Row;
 use crate::numbers::Pair;
 
 // The first of the entries that has a pair.
-pub(crate) fn find(rows: &[Row], pair: Pair) -> Option<usize>
+pub(crate) fn index_of(rows: &[Row], pair: Pair) -> Option<usize>
     ensures { result ≡ first_of (has_pair (named rows.now) pair.bench pair.number) 0 (length rows.now) }
 {
     rows.iter().position(|row| Pair::read(row) == pair)
@@ -82,7 +82,7 @@ fn first_fresh(rows: &[Row], n: usize) -> bool
     ensures { result ≡ every (fresh (named rows.now)) 0 n }
 {
     for k in 0..n {
-        if find(&rows[..k], Pair::read(&rows[k])).is_some() {
+        if index_of(&rows[..k], Pair::read(&rows[k])).is_some() {
             return false;
         }
     }

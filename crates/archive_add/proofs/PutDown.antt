@@ -15,7 +15,6 @@ use Rattle.byte_rows.proofs.Rows.{rest_all, rows_length, put_put, put_length, ro
 use Rattle.archive.specs.Format.{Frame, no_frame, frame_in, archive_of, written, shown_of, entry_row, picture_row, entry, header, picture_offset}
 use Rattle.archive.specs.Sound.{sound, frames_of, frame_at, count_of, entry_of, bench_at, number_at, shown_at}
 use Rattle.byte_rows.specs.Numbers.{number4}
-use Rattle.byte_rows.proofs.Numbers.{number_length}
 use Rattle.archive_add.specs.Adding.{frame_of}
 use Rattle.archive_add.specs.Next.{moved_row, next_entries, padded, numbers4}
 use Rattle.archive.specs.declared.numbers.Entry.{Entry}
@@ -35,6 +34,10 @@ unfolding put
 put_none out to = sym (rw (append-nil, add-zero) (take-append-drop to out))
 
 -- ---- numbers
+
+number_length : (n : ℕ) → length (number4 n) ≡ 4
+unfolding number4
+number_length n = refl
 
 pub numbers_length : (ns : List ℕ) → length (numbers4 ns) ≡ 4 * length ns
 unfolding numbers4

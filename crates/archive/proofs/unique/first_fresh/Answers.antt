@@ -10,8 +10,8 @@ loop-k-init c = refl
 
 pub returns-then-is_some : goal.returns-then-is_some
 returns-then-is_some c =
-    sym (below_fails _ _ c.loop-k.k (omega arith) (fresh_unfound c.args.rows.now c.loop-k.k (omega arith) _ _ _ c.read.ensures c.find.ensures c.is_some.ensures ∙ ap not c.if-is_some.true))
+    sym (below_fails _ _ c.loop-k.k (omega arith) (fresh_unfound c.args.rows.now c.loop-k.k (omega arith) _ _ _ c.read.ensures c.index_of.ensures c.is_some.ensures ∙ ap not c.if-is_some.true))
 
 pub loop-k-preserved : goal.loop-k-preserved
 loop-k-preserved c =
-    below_more _ _ c.loop-k.invariant (fresh_unfound c.args.rows.now c.loop-k.k (omega arith) _ _ _ c.read.ensures c.find.ensures c.is_some.ensures ∙ ap not c.if-is_some.false)
+    below_more _ _ c.loop-k.invariant (fresh_unfound c.args.rows.now c.loop-k.k (omega arith) _ _ _ c.read.ensures c.index_of.ensures c.is_some.ensures ∙ ap not c.if-is_some.false)

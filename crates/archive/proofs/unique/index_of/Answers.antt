@@ -2,7 +2,7 @@ use Rattle.std.proofs.Common.{rules}
 use Rattle.archive.specs.Sound.{has_pair}
 use Rattle.archive.specs.Rows.{named, pair_in}
 use Rattle.archive.proofs.Pairs.{first_is}
-use Rattle.archive.proofs.unique.find.Goals as goal
+use Rattle.archive.proofs.unique.index_of.Goals as goal
 
 pub returns : goal.returns
 unfolding has_pair named pair_in
