@@ -1,6 +1,6 @@
 """Holds draw and refresh to "no local array but copies of the record's" (document 02, [3]).
 
-    python3 mir_text.py FOLDER | python3 local_arrays.py ROOT ..
+    python3 mir_text.py FOLDER KIT ROOT .. | python3 local_arrays.py ROOT ..
 
 follows every call from the functions named and prints the functions it went through, each with the arrays among its locals. A local
 array may be: inside a value of the record's own types; a copy of an array field of such a value; or the array that such a value is

@@ -1,9 +1,11 @@
-"""Prints the functions of libraries as the compiler has read them, in the one expression that mir.py reads.
+"""Prints functions as the compiler has read them, in the one expression that mir.py reads.
 
-    python3 mir_text.py FOLDER
+    python3 mir_text.py FOLDER KIT ROOT ..
 
-FOLDER holds crates/, in which `rt lib` has built what is wanted: it keeps each library's functions in out/rlib, as JSON, a function's body
-in prefix order. A form that is not known ends it with exit status 2: nothing is passed over in silence."""
+prints the functions named and all that they call. FOLDER holds crates/, in which `rt lib` has built what is wanted: it keeps each
+library's functions in out/rlib, as JSON, a function's body in prefix order. KIT holds rlibs/, the toolchain's own libraries, with theirs.
+A generic function or type is printed once for each list of types that it is used at, which then stands in its name. A form that is not
+known ends it with exit status 2: nothing is passed over in silence."""
 import json
 import sys
 from pathlib import Path
@@ -26,6 +28,29 @@ def head(node):
     raise Unreadable(str(node)[:80])
 
 
+def number_of(length):
+    """A number that is a length or an argument of a type, as it is written or as it was put in a parameter's place."""
+    word, inner = head(length)
+    if word not in ("Lit", "Const"):
+        raise Unreadable(str(length)[:80])
+    return inner
+
+
+def named(name, types):
+    """A name, with the types that what it names is used at."""
+    return name + "<%s>" % ", ".join(argument_name(t) for t in types) if types else name
+
+
+def argument_name(type_):
+    """A type or number as it is written in the code; of the less usual types, as it is printed here."""
+    word, inner = head(type_)
+    if word in ("Lit", "Const"):
+        return str(inner)
+    if word == "Named":
+        return named(inner[0]["name"], inner[1])
+    return {"Unit": "()", "Int": "u%s" % inner}.get(word) or type_text(type_).replace('"', "'")
+
+
 WORDS = {"Bool": "tyBool", "Unit": "tyUnit", "Ptr": "tyPtr"}
 
 
@@ -38,18 +63,13 @@ def type_text(type_):
     if word == "Float":
         return "(tyFloat %d)" % inner
     if word == "Array":
-        length, number = head(inner[1])
-        if length != "Lit":
-            raise Unreadable(str(type_)[:80])
-        return "(tyArray %s (lenLit %d))" % (type_text(inner[0]), number)
+        return "(tyArray %s (lenLit %d))" % (type_text(inner[0]), number_of(inner[1]))
     if word == "Ref":
         return "(tyRef erased %s %s)" % ("mut" if inner[1] == "Mut" else "imm", type_text(inner[2]))
     if word == "Struct":
         return '(tyStruct "%s" %s)' % (inner[0], list_of([type_text(t) for t in inner[1]], "tcons", "tnil"))
     if word == "Named":
-        if inner[1]:
-            raise Unreadable(str(type_)[:80])
-        return '(tyNamed (pair "%s" lnil))' % inner[0]["name"]
+        return '(tyNamed (pair "%s" lnil))' % named(inner[0]["name"], inner[1])
     raise Unreadable(str(type_)[:80])
 
 
@@ -83,6 +103,8 @@ def operand_text(operand):
         return "(copy %s)" % place_text(inner)
     if word == "Int":
         return "(int %d %d)" % (inner["width"], inner["value"])
+    if word == "NumOf":
+        return "(int %d %d)" % (inner[0], number_of(inner[1]))
     if word in ("True", "False", "Unit"):
         return word.lower()
     raise Unreadable(str(operand)[:80])
@@ -109,7 +131,7 @@ def call_text(call):
     callee, inner = head(call[0])
     arguments = list_of([operand_text(o) for o in call[1]])
     if callee == "Fn":
-        return '(call (direct (fnRef "%s")) %s %s)' % (inner[0], arguments, place_text(call[2]))
+        return '(call (direct (fnRef "%s")) %s %s)' % (named(inner[0], inner[1]["types"]), arguments, place_text(call[2]))
     return "(call (%s) %s %s)" % (callee.lower(), arguments, place_text(call[2]))
 
 
@@ -163,21 +185,94 @@ def body_text(body):
     return stack[0]
 
 
-def function_text(name, function):
-    types = ['(pair "%s" %s)' % (t["name"], shape_text(t["shape"])) for t in function["types"]]
+class Library:
+    """All functions by name, the methods of impls by impl and number, and all named types by name."""
+
+    def __init__(self, folders):
+        self.functions, self.methods, self.shapes = {}, {}, {}
+        for folder in folders:
+            for path in sorted(Path(folder[0]).glob(folder[1])):
+                self.read(path.parent.parent.stem, json.loads(path.read_text(encoding="utf-8")))
+
+    def read(self, crate, functions):
+        for name, function in functions:
+            if name.split("::")[0].split("++")[0] != crate:
+                continue
+            self.functions[name] = function
+            of = function["generics"]["method_of"]
+            if isinstance(of, dict) and "Impl" in of:
+                self.methods[tuple(of["Impl"])] = name
+            for type_ in function["types"]:
+                self.shapes.setdefault(type_["name"], type_["shape"])
+
+    def at(self, callee, types, dicts):
+        """What a call goes to, with nothing of the caller's parameters left in it."""
+        word, inner = head(filled(callee, types, dicts))
+        if word == "Fn":
+            return {"Fn": inner}
+        if word == "Method" and "Impl" in inner[0]:
+            impl, own = inner[0]["Impl"], inner[2]
+            if (impl[0], inner[1]) in self.methods:
+                return {"Fn": [self.methods[impl[0], inner[1]], {"types": impl[1] + own["types"], "dicts": impl[2] + own["dicts"]}]}
+        raise Unreadable(str(callee)[:80])
+
+    def instance(self, name, types, dicts):
+        """A function at types: its locals and body with the types in its parameters' places, and what it calls."""
+        function, called = self.functions[name], []
+        body = []
+        for node in function["body"]:
+            if isinstance(node, dict) and "Call" in node:
+                callee = self.at(node["Call"][0], types, dicts)
+                called.append(callee["Fn"])
+                node = {"Call": [callee] + filled(node["Call"][1:], types, dicts)}
+            body.append(filled(node, types, dicts))
+        return {"params": function["params"], "locals": filled(function["locals"], types, dicts), "body": body}, called
+
+    def types_in(self, node, found):
+        """The named types that a function's locals hold or point to, with their shapes."""
+        if isinstance(node, dict) and "Named" in node and isinstance(node["Named"], list):
+            (type_, arguments), name = node["Named"], named(node["Named"][0]["name"], node["Named"][1])
+            if name not in found:
+                if type_["name"] not in self.shapes:
+                    raise Unreadable("no type %s" % name)
+                found[name] = filled(self.shapes[type_["name"]], arguments, [])
+                self.types_in(found[name], found)
+        for part in node.values() if isinstance(node, dict) else node if isinstance(node, list) else []:
+            self.types_in(part, found)
+
+
+def filled(node, types, dicts):
+    """A form with types and impls in the places of the parameters that it names."""
+    if isinstance(node, dict):
+        if set(node) == {"Param"}:
+            return types[node["Param"]]
+        if set(node) == {"Given"} and isinstance(node["Given"], int):
+            return dicts[node["Given"]]
+        return {key: filled(part, types, dicts) for key, part in node.items()}
+    return [filled(part, types, dicts) for part in node] if isinstance(node, list) else node
+
+
+def function_text(name, function, types):
+    pairs = ['(pair "%s" %s)' % (type_, shape_text(types[type_])) for type_ in sorted(types)]
     locals_ = ["(local %s valueLocal)" % type_text(local["ty"]) for local in function["locals"]]
-    return '(fn-def "%s" (fnItem %d lnil 0 %s %s) %s)' % (name, function["params"], list_of(locals_), body_text(function["body"]), list_of(types))
+    return '(fn-def "%s" (fnItem %d lnil 0 %s %s) %s)' % (name, function["params"], list_of(locals_), body_text(function["body"]), list_of(pairs))
 
 
-def main(folder):
-    found = sorted(Path(folder).glob("crates/*/out/rlib/*.rlib/toolchain/mir.json"))
-    functions = {}
-    for path in found:
-        for name, function in json.loads(path.read_text(encoding="utf-8")):
-            if name.split("::")[0] == path.parent.parent.stem:
-                functions[name] = function
+def main(folder, kit, roots):
+    library = Library([(folder, "crates/*/out/rlib/*.rlib/toolchain/mir.json"), (kit, "rlibs/*.rlib/toolchain/mir.json")])
+    texts, rest = {}, [(root, {"types": [], "dicts": []}) for root in roots]
     try:
-        print("program %s main" % list_of([function_text(name, functions[name]) for name in sorted(functions)]))
+        while rest:
+            name, at = rest.pop()
+            whole = named(name, at["types"])
+            if whole in texts or name not in library.functions:
+                continue
+            function, called = library.instance(name, at["types"], at["dicts"])
+            types = {}
+            library.types_in([local["ty"] for local in function["locals"]], types)
+            texts[whole] = function_text(whole, function, types)
+            rest += called
+        print("program %s main" % list_of([texts[name] for name in sorted(texts)]))
     except Unreadable as error:
         print("mir_text: this is not read: %s" % error, file=sys.stderr)
         return 2
@@ -185,4 +280,4 @@ def main(folder):
 
 
 if __name__ == "__main__":
-    sys.exit(main(sys.argv[1]))
+    sys.exit(main(sys.argv[1], sys.argv[2], sys.argv[3:]))

@@ -4,6 +4,7 @@ pub mod Fours
 pub mod Listing
 pub mod Pairs
 pub mod Read
+pub mod Rows
 pub mod Seen
 pub mod Tests
 pub mod Written

@@ -1,6 +1,7 @@
 -- Tests made without leaving early: the or of what was seen so far is zero exactly if every test held.
 -- Assumes nothing.
 use Prim.Native.Nat.{ℕ, ◌+◌}
+use native.Mathlib.Nat.{zero-add}
 use native.Mathlib.Omega.{arith}
 use mathlib.Core.Path.{◌≡◌, refl, sym, ◌∙◌}
 use mathlib.Core.Bool.{Bool, true}
@@ -31,7 +32,6 @@ module _ (p : ℕ → Bool) (i seen x : ℕ) (so_far : every p 0 i ≡ eqb seen 
   seen_turn = hold_alike (every p 0 (i + 1)) (eqb (bit_or seen x) 0) none all
 
 -- a byte that is to be zero
-pub zero_turn : (a : List ℕ) (from i seen : ℕ) → every (is_zero a from) 0 i ≡ eqb seen 0
-    → every (is_zero a from) 0 (i + 1) ≡ eqb (bit_or seen (get_or a (from + i) 0)) 0
+pub zero_turn : (a : List ℕ) (i seen : ℕ) → every (is_zero a 0) 0 i ≡ eqb seen 0 → every (is_zero a 0) 0 (i + 1) ≡ eqb (bit_or seen (get_or a i 0)) 0
 unfolding is_zero
-zero_turn a from i seen h = seen_turn (is_zero a from) i seen (get_or a (from + i) 0) h refl
+zero_turn a i seen h = seen_turn (is_zero a 0) i seen (get_or a i 0) h (rw zero-add)

@@ -1,44 +1,25 @@
 // An archive (document 02: a book of frames): whether it is sound, its count, its entries, and where a bench and number stand.
 #![tactic(auto)]
 
-ghost use Rattle.std.specs.Prelude.{◌≡◌};
+ghost use Rattle.std.specs.Prelude.{◌≡◌, MatchResult, true, false};
+ghost use Rattle.refusal.specs.Numbers.{answered};
 ghost use Rattle.archive.specs.Sound.{sound};
-ghost use Rattle.archive.specs.Answers.{no_entry, entry_at, good_fields, count_answer, entry_answer, find_answer};
+ghost use Rattle.archive.specs.Answers.{entry_at, good_fields, count_answer, entry_answer, find_answer};
 
+mod layout;
 mod numbers;
-mod search;
-mod soundness;
+mod opened;
 mod unique;
 
-pub use numbers::{Entry, Header};
-pub use search::Index;
-
-// The number of frames, and the refusal number.
-#[derive(Clone, Copy)]
-pub struct Counted {
-    pub count: u32,
-    pub refusal: u8,
-}
-
-#[derive(Clone, Copy)]
-pub struct EntryRead {
-    pub entry: Entry,
-    pub refusal: u8,
-}
-
-#[derive(Clone, Copy)]
-pub struct Found {
-    pub index: Index,
-    pub refusal: u8,
-}
+pub use layout::Layout;
+pub use numbers::{Entry, Header, Pair};
+pub use opened::Archive;
+use refusal::Refusal;
 
 pub fn is_sound(a: &[u8]) -> bool
     ensures { result ≡ sound a.now }
 {
-    if !soundness::header_sound(a) {
-        return false;
-    }
-    soundness::entries_sound(a, numbers::read4(a, 4) as usize)
+    Archive::open(a).is_ok()
 }
 
 // Whether bench and shown lines are in range.
@@ -46,10 +27,7 @@ pub fn is_sound(a: &[u8]) -> bool
 pub fn good_fields(bench: u32, shown: u32) -> bool
     ensures { result ≡ good_fields bench shown }
 {
-    if !soundness::good_bench(bench) {
-        return false;
-    }
-    soundness::good_shown(shown)
+    numbers::good_bench(bench) && numbers::good_shown(shown)
 }
 
 // Entry k as it stands, in whatever bytes; zeros where it is not wholly there.
@@ -57,75 +35,33 @@ pub fn good_fields(bench: u32, shown: u32) -> bool
 pub fn entry_at(a: &[u8], k: u32) -> Entry
     ensures { result ≡ entry_at a.now k }
 {
-    if 36 + 16 * (k as usize) <= a.len() {
-        return numbers::read_entry(a, k as usize);
+    let from = 20 + 16 * k as usize;
+    if a.len() < from + 16 {
+        return Entry::default();
     }
-    Entry {
-        bench: 0,
-        number: 0,
-        shown: 0,
-        offset: 0,
-    }
+    Entry::read(&a[from..])
 }
 
 // How many frames an archive holds.
-pub fn count(a: &[u8]) -> Counted
-    ensures { result ≡ count_answer a.now }
+#[tactic(auto, unfolding(crate::specs::Answers::count_answer, refusal::specs::Numbers::answered, refusal::specs::Numbers::named))]
+pub fn count(a: &[u8]) -> Result<u32, Refusal>
+    ensures { result ≡ answered (count_answer a.now).refusal (count_answer a.now).count }
 {
-    if !is_sound(a) {
-        return Counted {
-            count: 0,
-            refusal: 10,
-        };
-    }
-    Counted {
-        count: numbers::read4(a, 4),
-        refusal: 0,
-    }
-}
-
-fn refused_entry(refusal: u8) -> EntryRead
-    ensures { result ≡ record { entry = no_entry; refusal = refusal } }
-{
-    EntryRead {
-        entry: Entry {
-            bench: 0,
-            number: 0,
-            shown: 0,
-            offset: 0,
-        },
-        refusal,
-    }
+    Ok(Archive::open(a)?.count())
 }
 
 // Entry k of a sound archive.
-pub fn entry(a: &[u8], k: u32) -> EntryRead
-    ensures { result ≡ entry_answer a.now k }
+#[tactic(auto, unfolding(crate::specs::Answers::entry_answer, crate::specs::Answers::entry_refusal, refusal::specs::Numbers::answered, refusal::specs::Numbers::named))]
+pub fn entry(a: &[u8], k: u32) -> Result<Entry, Refusal>
+    ensures { result ≡ answered (entry_answer a.now k).refusal (entry_answer a.now k).entry }
 {
-    if !is_sound(a) {
-        return refused_entry(10);
-    }
-    if k >= numbers::read4(a, 4) {
-        return refused_entry(11);
-    }
-    EntryRead {
-        entry: numbers::read_entry(a, k as usize),
-        refusal: 0,
-    }
+    Archive::open(a)?.entry(k)
 }
 
 // Which entry of a sound archive has a bench and number.
-pub fn find(a: &[u8], bench: u32, number: u32) -> Found
-    ensures { result ≡ find_answer a.now bench number }
+#[tactic(auto, unfolding(crate::specs::Answers::find_answer, refusal::specs::Numbers::answered, refusal::specs::Numbers::named))]
+pub fn find(a: &[u8], pair: Pair) -> Result<Option<u32>, Refusal>
+    ensures { result ≡ answered (find_answer a.now pair.bench pair.number).refusal (find_answer a.now pair.bench pair.number).index }
 {
-    if !is_sound(a) {
-        return Found {
-            index: Index::Nothing,
-            refusal: 10,
-        };
-    }
-    Found {
-        index: search::index_of(a, numbers::read4(a, 4) as usize, bench, number),
-        refusal: 0,
-    }
+    Ok(Archive::open(a)?.find(pair))
 }

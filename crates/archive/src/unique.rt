@@ -1,97 +1,98 @@
-// Whether every pair of bench and number stands once. Four entries at a time are held against those before them, in one pass that is not
-// left early, so that a run takes several entries at once.
-ghost use Rattle.std.specs.Prelude.{◌+◌, ◌*◌, ◌≤◌, length, not, ◌&&◌, ◌||◌, ◌≡◌};
-ghost use Rattle.facts.specs.Tests.{every};
-ghost use Rattle.archive.specs.Sound.{frame_at, has_pair, is_new, fresh};
+// The pairs of bench and number of entries: which entry has one, and whether every pair stands once. For the latter four entries at a time
+// are held against those before them, in one pass that is not left early, so that a run takes several entries at once.
+ghost use Rattle.std.specs.Prelude.{Bool, ◌+◌, ◌*◌, ◌≤◌, length, false, ◌||◌, ◌≡◌};
+ghost use Rattle.std.specs.List.{fold, list_all};
+ghost use Rattle.facts.specs.Tests.{every, first_of};
+ghost use Rattle.archive.specs.declared.numbers.Pair.{Pair};
+ghost use Rattle.archive.specs.Sound.{has_pair, is_new, fresh};
+ghost use Rattle.archive.specs.Rows.{named, pair_in, same_pair, apart};
 
-use crate::numbers::{Entry, read_entry};
-use crate::search::has_pair;
+use crate::layout::Row;
+use crate::numbers::Pair;
 
-// Whether entry j has the pair of one of four entries.
-fn one_has(a: &[u8], j: usize, p: Entry, q: Entry, r: Entry, s: Entry) -> bool
-    requires { 20 + 16 * j + 16 ≤ length a.now }
-    ensures { result ≡ (has_pair (frame_at a.now) p.bench p.number j || has_pair (frame_at a.now) q.bench q.number j || has_pair (frame_at a.now) r.bench r.number j || has_pair (frame_at a.now) s.bench s.number j) }
+// The first of the entries that has a pair.
+pub(crate) fn find(rows: &[Row], pair: Pair) -> Option<usize>
+    ensures { result ≡ first_of (has_pair (named rows.now) pair.bench pair.number) 0 (length rows.now) }
 {
-    has_pair(a, j, p.bench, p.number)
-        | has_pair(a, j, q.bench, q.number)
-        | has_pair(a, j, r.bench, r.number)
-        | has_pair(a, j, s.bench, s.number)
+    rows.iter().position(|row| Pair::read(row) == pair)
 }
 
-// Whether none of the first n entries has the pair of one of four.
-fn four_new(a: &[u8], n: usize, p: Entry, q: Entry, r: Entry, s: Entry) -> bool
-    requires { 20 + 16 * n ≤ length a.now }
-    ensures { result ≡ (is_new (frame_at a.now) p.bench p.number n && is_new (frame_at a.now) q.bench q.number n && is_new (frame_at a.now) r.bench r.number n && is_new (frame_at a.now) s.bench s.number n) }
+// Whether an entry has one of four pairs. It looks at all four, so that a run of it takes several entries at once.
+#[tactic(auto, unfolding(crate::specs::Rows::same_pair))]
+fn one_has(row: &Row, four: &[Pair; 4]) -> bool
+    ensures { result ≡ fold (λ (has : Bool) (p : Pair). has || same_pair p (pair_in row.now)) false four.now }
+{
+    let pair = Pair::read(row);
+    four.iter().fold(false, |has, p| has | (*p == pair))
+}
+
+// Whether no entry has one of four pairs.
+fn four_new(rows: &[Row], four: &[Pair; 4]) -> bool
+    ensures { result ≡ list_all (λ (p : Pair). is_new (named rows.now) p.bench p.number (length rows.now)) four.now }
 {
     let mut seen = false;
-    for j in 0..n {
-        seen = seen | one_has(a, j, p, q, r, s);
+    for row in rows {
+        seen |= one_has(row, four);
     }
     !seen
 }
 
-// Whether each of four entries has another pair than those of them that stand before it.
-fn apart(a: &[u8], k: usize, q: Entry, r: Entry, s: Entry) -> bool
-    requires { 20 + 16 * (k + 3) ≤ length a.now }
-    ensures { result ≡ not (has_pair (frame_at a.now) q.bench q.number k || (has_pair (frame_at a.now) r.bench r.number k || has_pair (frame_at a.now) r.bench r.number (k + 1)) || (has_pair (frame_at a.now) s.bench s.number k || has_pair (frame_at a.now) s.bench s.number (k + 1) || has_pair (frame_at a.now) s.bench s.number (k + 2))) }
+// Whether each of four pairs is another than those before it.
+fn apart(four: &[Pair; 4]) -> bool
+    ensures { result ≡ apart four.now }
 {
-    let second = has_pair(a, k, q.bench, q.number);
-    let third = has_pair(a, k, r.bench, r.number) | has_pair(a, k + 1, r.bench, r.number);
-    let fourth = has_pair(a, k, s.bench, s.number)
-        | has_pair(a, k + 1, s.bench, s.number)
-        | has_pair(a, k + 2, s.bench, s.number);
-    !(second | third | fourth)
+    for i in 0..4 {
+        if four[..i].contains(&four[i]) {
+            return false;
+        }
+    }
+    true
 }
 
 // Whether each of four entries has another pair than all before it.
-fn four_fresh(a: &[u8], k: usize) -> bool
-    requires { 20 + 16 * (k + 4) ≤ length a.now }
-    ensures { result ≡ every (fresh (frame_at a.now)) k 4 }
+fn four_fresh(rows: &[Row], k: usize) -> bool
+    requires { k + 4 ≤ length rows.now }
+    ensures { result ≡ every (fresh (named rows.now)) k 4 }
 {
-    let p = read_entry(a, k);
-    let q = read_entry(a, k + 1);
-    let r = read_entry(a, k + 2);
-    let s = read_entry(a, k + 3);
-    if !four_new(a, k, p, q, r, s) {
-        return false;
-    }
-    apart(a, k, q, r, s)
+    let four = [
+        Pair::read(&rows[k]),
+        Pair::read(&rows[k + 1]),
+        Pair::read(&rows[k + 2]),
+        Pair::read(&rows[k + 3]),
+    ];
+    four_new(&rows[..k], &four) && apart(&four)
 }
 
 // The same of n times four entries.
-fn fours_fresh(a: &[u8], from: usize, n: usize) -> bool
-    requires { 20 + 16 * (from + 4 * n) ≤ length a.now }
-    ensures { result ≡ every (fresh (frame_at a.now)) from (4 * n) }
+fn fours_fresh(rows: &[Row], from: usize, n: usize) -> bool
+    requires { from + 4 * n ≤ length rows.now }
+    ensures { result ≡ every (fresh (named rows.now)) from (4 * n) }
 {
     for i in 0..n {
-        if !four_fresh(a, from + 4 * i) {
+        if !four_fresh(rows, from + 4 * i) {
             return false;
         }
     }
     true
 }
 
-// The same of the first n entries, one by one: four times the same entry.
-fn first_fresh(a: &[u8], n: usize) -> bool
-    requires { 20 + 16 * n ≤ length a.now }
-    ensures { result ≡ every (fresh (frame_at a.now)) 0 n }
+// The same of the first n entries, one by one.
+fn first_fresh(rows: &[Row], n: usize) -> bool
+    requires { n ≤ length rows.now }
+    ensures { result ≡ every (fresh (named rows.now)) 0 n }
 {
     for k in 0..n {
-        let e = read_entry(a, k);
-        if !four_new(a, k, e, e, e, e) {
+        if find(&rows[..k], Pair::read(&rows[k])).is_some() {
             return false;
         }
     }
     true
 }
 
-// Whether the pairs of n entries stand once: those that are left over by fours come first, since these have the fewest before them.
-pub(crate) fn all_fresh(a: &[u8], n: usize) -> bool
-    requires { 20 + 16 * n ≤ length a.now }
-    ensures { result ≡ every (fresh (frame_at a.now)) 0 n }
+// Whether the pairs stand once: those that are left over by fours come first, since these have the fewest before them.
+pub(crate) fn all_fresh(rows: &[Row]) -> bool
+    ensures { result ≡ every (fresh (named rows.now)) 0 (length rows.now) }
 {
-    if !first_fresh(a, n % 4) {
-        return false;
-    }
-    fours_fresh(a, n % 4, n / 4)
+    let left = rows.len() % 4;
+    first_fresh(rows, left) && fours_fresh(rows, left, rows.len() / 4)
 }

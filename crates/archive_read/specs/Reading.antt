@@ -1,9 +1,8 @@
 -- Reading a frame of an archive. Document 02, request [1].
 use Rattle.std.specs.Prelude.{ℕ, cond, List, eqb, length}
 use Rattle.facts.specs.Lists.{in_room}
-use Rattle.archive.specs.declared.EntryRead.{EntryRead}
+use Rattle.archive.specs.Answers.{EntryRead, no_entry, entry_answer}
 use Rattle.archive.specs.Sound.{lines_at}
-use Rattle.archive.specs.Answers.{no_entry, entry_answer}
 
 -- 2 for a lent picture of a wrong length; then as an entry is asked for
 unfoldable pub read_answer : List ℕ → ℕ → ℕ → EntryRead

@@ -5,7 +5,7 @@ use scanline::Video;
 
 // The interrupt counter, 0 to 15, and the beam's scan.
 #[repr(C)]
-#[derive(Clone, Copy)]
+#[derive(Clone, Copy, Default)]
 pub struct Clock {
     pub counter: u8,
     pub beam: u16,
@@ -13,7 +13,7 @@ pub struct Clock {
 
 // Boot mode, 0 or 1, and the place in the boot stream, 0 to 1,024.
 #[repr(C)]
-#[derive(Clone, Copy)]
+#[derive(Clone, Copy, Default)]
 pub struct Boot {
     pub mode: u8,
     pub at: u16,
@@ -21,7 +21,7 @@ pub struct Boot {
 
 // The disc controller's interrupt route (0 none, 1 NMI, 2 INT), its line, terminal count and motor, each 0 or 1.
 #[repr(C)]
-#[derive(Clone, Copy)]
+#[derive(Clone, Copy, Default)]
 pub struct Disc {
     pub route: u8,
     pub line: u8,
@@ -31,7 +31,7 @@ pub struct Disc {
 
 // The external line, the driven video and the bleeper are 0 or 1; the dirty lines are document 01's noted lines.
 #[repr(C)]
-#[derive(Clone, Copy)]
+#[derive(Clone, Copy, Default)]
 pub struct Board {
     pub sizes: Sizes,
     pub rate: u8,

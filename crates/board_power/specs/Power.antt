@@ -6,7 +6,11 @@ use Rattle.paging.specs.declared.Paging.{Paging}
 use Rattle.paging.specs.Maps.{allowed}
 use Rattle.board.specs.declared.record.Board.{Board}
 use Rattle.board.specs.Record.{good_rate}
-use Rattle.board_power.specs.declared.PowerOn.{PowerOn}
+
+-- the record, and a refusal number or 0
+pub record PowerOn : Type 0 where
+  pub board : Board
+  pub refusal : ℕ
 
 -- "a record of zeros"
 unfoldable pub zero_board : Board

@@ -4,7 +4,7 @@ use Rattle.paging.specs.declared.Sizes.{Sizes}
 use Rattle.paging.specs.declared.Paging.{Paging}
 use Rattle.paging.specs.Maps.{allowed}
 use Rattle.paging.specs.Memory.{place_of, read_block, write_block}
-use Rattle.scanline.specs.declared.MadePointer.{MadePointer}
+use Rattle.scanline.specs.Pointers.{MadePointer}
 use Rattle.scanline.specs.declared.Pointer.{Pointer}
 
 -- sizes and paging from plain numbers

@@ -3,4 +3,7 @@
 
 mod packing;
 
-pub use packing::{make_pointer_reply, reach_reply, read_pointer_reply, reply};
+pub use packing::{
+    FLOATING, FORWARDED, FOUND, INT, NMI, accepted, make_pointer_reply, reach_reply,
+    read_pointer_reply, refused, refused_step,
+};

@@ -8,6 +8,7 @@ ghost use Rattle.c_calls.specs.Calls.{step_reply, power_on_reply, draw_reply, re
 
 use board::Board;
 use c_calls::{draw_reply, next_dirty_reply, power_on_reply, refresh_reply, step_reply};
+use paging::{Paging, Sizes};
 
 #[unsafe(no_mangle)]
 pub extern "C" fn joyce_step(
@@ -41,7 +42,11 @@ pub extern "C" fn joyce_power_on(
 ) -> u64
     ensures { (result ≡ power_on_reply (powered_on (sizes_of internal total) rate (paging_of f0 f1 f2 f3 lock) f5 f6)) × (b.new ≡ (powered_on (sizes_of internal total) rate (paging_of f0 f1 f2 f3 lock) f5 f6).board) }
 {
-    let a = power_on_reply(*b, internal, total, rate, f0, f1, f2, f3, lock, f5, f6);
+    let paging = Paging {
+        maps: [f0, f1, f2, f3],
+        lock,
+    };
+    let a = power_on_reply(Sizes { internal, total }, rate, paging, f5, f6);
     *b = a.board;
     a.word
 }

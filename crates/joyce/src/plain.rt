@@ -9,6 +9,7 @@ ghost use Rattle.c_calls.specs.Calls.{difference_reply};
 
 use c_calls::first_difference_reply;
 use c_numbers::{make_pointer_reply, reach_reply, read_pointer_reply};
+use paging::{Paging, Sizes};
 
 // JOYCE_VERSION of the header that this library is of: a change of the record's layout or of a reply raises it.
 #[unsafe(no_mangle)]
@@ -23,7 +24,10 @@ pub extern "C" fn joyce_version() -> u32
 pub extern "C" fn joyce_widen(line: &[u8], out: &mut [u8]) -> u8
     ensures { (result ≡ widen_refusal (length line.now) (length out.old)) × (out.new ≡ widened_out line.now out.old) }
 {
-    panel::widen(line, out)
+    match panel::widen(line, out) {
+        Ok(()) => 0,
+        Err(refusal) => u8::from(refusal),
+    }
 }
 
 // The roll of the top line, -128 to 127.
@@ -63,7 +67,11 @@ pub extern "C" fn joyce_reach(
 ) -> u64
     ensures { result ≡ reach_reply (sizes_of internal total) (paging_of f0 f1 f2 f3 lock) address }
 {
-    reach_reply(internal, total, f0, f1, f2, f3, lock, address)
+    let paging = Paging {
+        maps: [f0, f1, f2, f3],
+        lock,
+    };
+    reach_reply(Sizes { internal, total }, paging, address)
 }
 
 // The first place where two pictures differ.

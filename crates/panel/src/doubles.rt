@@ -3,7 +3,7 @@ ghost use Rattle.std.specs.Prelude.{◌≡◌, ◌+◌, ◌*◌};
 ghost use Rattle.panel.specs.Widen.{doubled_byte, doubled_pair, tabulate};
 
 // The eight pixels of each byte, each twice: the left four in the high byte.
-const DOUBLED: [u16; 256] = [
+static DOUBLED: [u16; 256] = [
     0x0000, 0x0003, 0x000c, 0x000f, 0x0030, 0x0033, 0x003c, 0x003f, 0x00c0, 0x00c3, 0x00cc, 0x00cf,
     0x00f0, 0x00f3, 0x00fc, 0x00ff, 0x0300, 0x0303, 0x030c, 0x030f, 0x0330, 0x0333, 0x033c, 0x033f,
     0x03c0, 0x03c3, 0x03cc, 0x03cf, 0x03f0, 0x03f3, 0x03fc, 0x03ff, 0x0c00, 0x0c03, 0x0c0c, 0x0c0f,
@@ -28,12 +28,12 @@ const DOUBLED: [u16; 256] = [
     0xfff0, 0xfff3, 0xfffc, 0xffff,
 ];
 
-// The table, whose rule is checked here, once, over all entries. Made once for a whole line.
+// The table, whose rule is checked here, once, over all entries.
 #[tactic(auto, unfolding(crate::specs::Widen::pixel_of, crate::specs::Widen::digits, crate::specs::Widen::byte_of, crate::specs::Widen::doubled_byte, crate::specs::Widen::doubled_pair, crate::specs::Widen::tabulate))]
-pub(crate) fn doubled_table() -> [u16; 256]
-    ensures { result ≡ tabulate doubled_pair 0 256 }
+fn doubled_table() -> &'static [u16; 256]
+    ensures { result.now ≡ tabulate doubled_pair 0 256 }
 {
-    DOUBLED
+    &DOUBLED
 }
 
 // A byte's pixels, each twice.
@@ -41,6 +41,5 @@ pub(crate) fn doubled_table() -> [u16; 256]
 pub fn doubled(byte: u8) -> u16
     ensures { result ≡ doubled_byte byte 0 * 256 + doubled_byte byte 1 }
 {
-    let table = doubled_table();
-    table[byte as usize]
+    doubled_table()[byte as usize]
 }

@@ -18,11 +18,10 @@ use Rattle.board_power.specs.Power.{fresh_board}
 use Rattle.board_power.proofs.Power.{power_on_board, power_on_good}
 use Rattle.step_rules.specs.declared.Step.{Step}
 use Rattle.step_rules.specs.declared.Step.TheVariants.{Fetch, Read, Write, PortIn, PortOut, Scan, Key, DiscLine, ExternalLine}
-use Rattle.step_rules.specs.declared.Reply.{Reply}
 use Rattle.step_rules.specs.Kinds.{on_in}
 use Rattle.step_rules.specs.Ports.{status_byte}
 use Rattle.step_rules.specs.After.{clock_after, board_after}
-use Rattle.step_rules.specs.Answers.{port_in_outcome, step_outcome, step_refusal, nmi_shown, step_answer}
+use Rattle.step_rules.specs.Answers.{Reply, port_in_outcome, step_outcome, step_refusal, nmi_shown, step_answer}
 use Rattle.step_rules.proofs.After.{accepted_board, accepted_byte, refused_board}
 use Rattle.step_rules.proofs.Good.{step_good}
 use Rattle.runs.specs.Events.{Event, step, refresh, step_on_other, refresh_on_other, overwritten, Machine, next}

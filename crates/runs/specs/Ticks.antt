@@ -7,10 +7,9 @@ use Rattle.paging.specs.declared.Paging.{Paging}
 use Rattle.board.specs.declared.record.Board.{Board}
 use Rattle.board.specs.Clock.{next_beam, ticks}
 use Rattle.board_power.specs.Power.{power_on_refusal}
-use Rattle.step_rules.specs.declared.Reply.{Reply}
 use Rattle.step_rules.specs.declared.Step.{Step}
 use Rattle.step_rules.specs.Kinds.{on_in, on_out, on_scan}
-use Rattle.step_rules.specs.Answers.{step_refusal, step_answer}
+use Rattle.step_rules.specs.Answers.{Reply, step_refusal, step_answer}
 use Rattle.runs.specs.Events.{Event, step, refresh, step_on_other, refresh_on_other, overwritten, Machine, next, started}
 
 -- what an accepted step adds to each part of the account: of the record before it, its reply and the step

@@ -8,6 +8,7 @@ use mathlib.Core.List.{List}
 use borrow.Author.Tests.{ne_eqb, leb-true}
 use lib.Dec.{eqb, leb}
 use lib.ListN.{length}
+use Rattle.std.specs.Prelude.{Ok, Err}
 use Rattle.facts.proofs.Bools.{both, cond_kept}
 use Rattle.lineset.specs.declared.LineSet.{LineSet}
 use Rattle.lineset.proofs.Sets.{Words}
@@ -19,10 +20,11 @@ use Rattle.board.specs.Dirty.{dirty_after}
 use Rattle.board.proofs.Dirty.{dirty_same}
 use Rattle.board.proofs.Good.{good_nmi}
 use Rattle.board.proofs.Refusals.{first_two, first_none, first_second, first_first, not_refused, record_good}
+use Rattle.refusal.specs.Numbers.{named, answered}
 use Rattle.step_rules.specs.declared.Step.{Step}
 use Rattle.step_rules.specs.Ports.{decoded_in, decoded_out}
 use Rattle.step_rules.specs.After.{video_after, ram_after, parts_after, board_after}
-use Rattle.step_rules.specs.Answers.{boot_fits, length_refusal, kind_refusal, stream_ended, state_refusal, lent_refusal, own_refusal, step_refusal, step_outcome, nmi_line, nmi_shown, accepted_answer, refused_answer, step_answer, step_ram, accepts, refuses, step_effect, effect_ram, answer_of}
+use Rattle.step_rules.specs.Answers.{boot_fits, length_refusal, kind_refusal, stream_ended, state_refusal, lent_refusal, own_refusal, step_refusal, step_outcome, nmi_line, nmi_shown, accepted_answer, refused_answer, step_answer, step_ram, told, step_effect, effect_ram, answer_of}
 use Rattle.step_rules.proofs.ByKind.{on_key_lem, on_in_lem, on_out_lem}
 
 -- what record and buffers that are found good tell
@@ -53,22 +55,23 @@ own_known b n s =
     rw (first_two (kind_refusal s) (cond (stream_ended b n s) 4 0)) (cond_kept P (eqb (kind_refusal s) 0) (cond_kept P (stream_ended b n s) refl refl) own)
 
 -- where no NMI stands, the lines that are shown and the record are those of a refusal
-answer_refused : (b : Board) (n : ℕ) → (eqb b.disc.route 1 && eqb b.disc.line 1) ≡ false → eqb n 1 ≡ false → answer_of (refuses b n) ≡ refused_answer b n
-unfolding answer_of refused_answer nmi_shown nmi_line
-answer_refused b n e f = rw (e, f)
+answer_refused : (b : Board) (n : ℕ) → (eqb b.disc.route 1 && eqb b.disc.line 1) ≡ false → eqb n 1 ≡ false → eqb n 0 ≡ false
+    → answer_of (record { board = b; outcome = Err (named n) }) ≡ told (refused_answer b n)
+unfolding answer_of refused_answer nmi_shown nmi_line answered
+answer_refused b n e f g = rw (e, f, g)
 
 module _ (b : Board) (ram boot : List ℕ) (s : Step) where
   -- the refusals of the kind itself
-  pub own_accepted : own_refusal b (length boot) s ≡ 0 → accepts (board_after b ram s) (step_outcome b ram boot s) ≡ step_effect b ram boot s
-  unfolding step_effect
+  pub own_accepted : own_refusal b (length boot) s ≡ 0 → record { board = board_after b ram s; outcome = Ok (step_outcome b ram boot s) } ≡ step_effect b ram boot s
+  unfolding step_effect answered
   own_accepted e = rw e
 
   pub own_ram : own_refusal b (length boot) s ≡ 0 → ram_after b.sizes b.paging ram s ≡ effect_ram b ram boot s
   unfolding effect_ram
   own_ram e = rw e
 
-  pub own_refused : (n : ℕ) → own_refusal b (length boot) s ≡ n → (n ≡ 0 → ⊥) → refuses b n ≡ step_effect b ram boot s
-  unfolding step_effect
+  pub own_refused : (n : ℕ) → own_refusal b (length boot) s ≡ n → (n ≡ 0 → ⊥) → record { board = b; outcome = Err (named n) } ≡ step_effect b ram boot s
+  unfolding step_effect answered
   own_refused n e ne = rw (e, ne_eqb n 0 ne)
 
   pub own_kept : (n : ℕ) → own_refusal b (length boot) s ≡ n → (n ≡ 0 → ⊥) → ram ≡ effect_ram b ram boot s
@@ -85,30 +88,37 @@ module _ (b : Board) (ram boot : List ℕ) (s : Step) where
       go false = refl
 
   -- those of record and buffers come first
-  pub step_own : lent_refusal b (length ram) (length boot) ≡ 0 → answer_of (step_effect b ram boot s) ≡ step_answer b ram boot s
-  unfolding step_effect step_answer step_refusal accepted_answer answer_of
-  step_own e =
+  pub step_own : lent_refusal b (length ram) (length boot) ≡ 0 → step_refusal b ram boot s ≡ own_refusal b (length boot) s
+  unfolding step_refusal
+  step_own e = first_second _ (own_refusal b (length boot) s) e
+
+  pub step_answered : lent_refusal b (length ram) (length boot) ≡ 0 → answer_of (step_effect b ram boot s) ≡ told (step_answer b ram boot s)
+  unfolding step_effect step_answer accepted_answer answer_of answered
+  step_answered e =
       let n = own_refusal b (length boot) s in
-      let r : answer_of (refuses b n) ≡ refused_answer b n = answer_refused b n (good_nmi b (lent_good b (length ram) (length boot) e)) (own_known b (length boot) s) in
-      rw (first_second _ n e) (go (eqb n 0) r)
+      rw (step_own e)
+      (go (eqb n 0) (λ g. answer_refused b n (good_nmi b (lent_good b (length ram) (length boot) e)) (own_known b (length boot) s) g) refl)
     where
-      go : (t : Bool) → answer_of (refuses b (own_refusal b (length boot) s)) ≡ refused_answer b (own_refusal b (length boot) s)
-          → answer_of (cond t (accepts (board_after b ram s) (step_outcome b ram boot s)) (refuses b (own_refusal b (length boot) s)))
-          ≡ cond t (accepted_answer (board_after b ram s) (step_outcome b ram boot s)) (refused_answer b (own_refusal b (length boot) s))
-      go true r = refl
-      go false r = r
+      go : (t : Bool)
+          → (eqb (own_refusal b (length boot) s) 0 ≡ false
+          → answer_of (record { board = b; outcome = Err (named (own_refusal b (length boot) s)) }) ≡ told (refused_answer b (own_refusal b (length boot) s)))
+          → eqb (own_refusal b (length boot) s) 0 ≡ t
+          → answer_of (record { board = cond t (board_after b ram s) b; outcome = cond t (Ok (step_outcome b ram boot s)) (Err (named (own_refusal b (length boot) s))) })
+          ≡ told (cond t (accepted_answer (board_after b ram s) (step_outcome b ram boot s)) (refused_answer b (own_refusal b (length boot) s)))
+      go true r f = refl
+      go false r f = r f
 
   pub step_own_ram : lent_refusal b (length ram) (length boot) ≡ 0 → effect_ram b ram boot s ≡ step_ram b ram boot s
-  unfolding effect_ram step_ram step_refusal
-  step_own_ram e = rw (first_second _ (own_refusal b (length boot) s) e)
+  unfolding effect_ram step_ram
+  step_own_ram e = rw (step_own e)
 
-  pub step_refused : (n : ℕ) → lent_refusal b (length ram) (length boot) ≡ n → (n ≡ 0 → ⊥) → refused_answer b n ≡ step_answer b ram boot s
-  unfolding step_answer step_refusal
-  step_refused n e ne = rw (first_first _ (own_refusal b (length boot) s) n e ne, ne_eqb n 0 ne)
+  pub step_lent : (lent_refusal b (length ram) (length boot) ≡ 0 → ⊥) → step_refusal b ram boot s ≡ lent_refusal b (length ram) (length boot)
+  unfolding step_refusal
+  step_lent ne = first_first _ (own_refusal b (length boot) s) _ refl ne
 
-  pub step_kept : (n : ℕ) → lent_refusal b (length ram) (length boot) ≡ n → (n ≡ 0 → ⊥) → ram ≡ step_ram b ram boot s
-  unfolding step_ram step_refusal
-  step_kept n e ne = rw (first_first _ (own_refusal b (length boot) s) n e ne, ne_eqb n 0 ne)
+  -- a refusal of the kind is known only of a good record
+  pub own_other : lent_refusal b (length ram) (length boot) ≡ 0 → eqb (step_refusal b ram boot s) 1 ≡ false
+  own_other e = rw (step_own e) (own_known b (length boot) s)
 
   -- a step that keeps RAM and video registers marks nothing
   pub plain : ram_after b.sizes b.paging ram s ≡ ram → video_after b.video s ≡ b.video → Words b.dirty → board_after b ram s ≡ parts_after b s

@@ -8,13 +8,15 @@ use mathlib.Core.List.{List, [], ◌∷◌}
 use borrow.Author.Tests.{leb-true}
 use lib.Dec.{eqb, leb}
 use lib.ListN.{length}
+use Rattle.std.specs.Prelude.{Option, Some, None}
 use Rattle.facts.proofs.Bools.{both}
 use Rattle.board.specs.declared.record.Board.{Board}
 use Rattle.board.specs.Record.{first_refusal}
 use Rattle.board.proofs.Refusals.{first_two}
+use Rattle.step_rules.specs.declared.Step.{Step}
 use Rattle.step_rules.specs.declared.Step.TheVariants.{Key}
 use Rattle.step_rules.specs.Answers.{kind_refusal, lent_refusal, own_refusal, step_refusal, step_answer, step_ram}
-use Rattle.step_rules.specs.Decoding.{Decoded, a_step, no_step, largest_number, largest_value, in_range, step_of, numbers_answer, numbers_ram}
+use Rattle.step_rules.specs.Decoding.{largest_number, largest_value, in_range, step_of, numbers_answer, numbers_ram}
 
 -- the ranges of the kind that it is
 pub of_kind : (k c n v : ℕ) (r : Bool) → k ≡ c → r ≡ in_range k n v → r ≡ true → in_range c n v ≡ true
@@ -65,7 +67,7 @@ module _ (b : Board) (ram boot : List ℕ) where
   unfolding step_refusal own_refusal kind_refusal first_refusal
   three = refl
 
-  no_step_answer : step_answer b ram boot (Key 16 0) ≡ numbers_answer b ram boot no_step
+  no_step_answer : step_answer b ram boot (Key 16 0) ≡ numbers_answer b ram boot None
   unfolding step_answer numbers_answer
   no_step_answer = rw (three, three_refused (lent_refusal b (length ram) (length boot)))
 
@@ -73,12 +75,12 @@ module _ (b : Board) (ram boot : List ℕ) where
   unfolding step_ram
   no_step_ram = rw (three, three_refused (lent_refusal b (length ram) (length boot)))
 
-  pub numbers_answer_lem : (d : Decoded) → step_answer b ram boot (step_of d) ≡ numbers_answer b ram boot d
+  pub numbers_answer_lem : (d : Option Step) → step_answer b ram boot (step_of d) ≡ numbers_answer b ram boot d
   unfolding step_of numbers_answer
-  numbers_answer_lem (a_step s) = refl
-  numbers_answer_lem no_step = no_step_answer
+  numbers_answer_lem (Some s) = refl
+  numbers_answer_lem None = no_step_answer
 
-  pub numbers_ram_lem : (d : Decoded) → step_ram b ram boot (step_of d) ≡ numbers_ram b ram boot d
+  pub numbers_ram_lem : (d : Option Step) → step_ram b ram boot (step_of d) ≡ numbers_ram b ram boot d
   unfolding step_of numbers_ram
-  numbers_ram_lem (a_step s) = refl
-  numbers_ram_lem no_step = no_step_ram
+  numbers_ram_lem (Some s) = refl
+  numbers_ram_lem None = no_step_ram

@@ -5,3 +5,4 @@ pub mod Decoding
 pub mod Good
 pub mod Ports
 pub mod ShortCuts
+pub mod Told

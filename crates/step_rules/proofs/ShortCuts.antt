@@ -2,7 +2,7 @@
 -- Assumes nothing.
 use Prim.Native.Nat.{ℕ, ◌*◌, ◌/◌, ◌≤◌}
 use native.Mathlib.Omega.{arith}
-use mathlib.Core.Path.{◌≡◌, refl, sym, ◌∙◌, ap, subst}
+use mathlib.Core.Path.{◌≡◌, refl, sym, ◌∙◌, ap}
 use mathlib.Core.Bool.{Bool, true, false, cond, not, ◌&&◌, ◌||◌, true≢false}
 use mathlib.Core.List.{List}
 use borrow.Author.Tests.{ne_eqb, eqb-true, leb-false, lt-leb}
@@ -17,28 +17,26 @@ use Rattle.board.specs.Record.{first_refusal, view_of, with_dirty}
 use Rattle.board.specs.Registers.{paging_out}
 use Rattle.board.proofs.Dirty.{store_past}
 use Rattle.board.proofs.Good.{good_nmi}
-use Rattle.step_rules.specs.declared.Answer.{Answer}
 use Rattle.step_rules.specs.declared.Step.{Step}
 use Rattle.step_rules.specs.declared.Step.TheVariants.{Fetch, Read, Write, PortIn, PortOut, Scan, Key, DiscLine, ExternalLine}
 use Rattle.step_rules.specs.After.{paging_after, boot_after, ram_after, parts_after, board_after}
-use Rattle.step_rules.specs.Answers.{kind_refusal, stream_ended, state_refusal, own_refusal, fetched_byte, step_outcome, int_line, nmi_line, nmi_shown, step_answer, step_ram, giving, accepts, step_effect, answer_of}
+use Rattle.step_rules.specs.Answers.{kind_refusal, stream_ended, state_refusal, own_refusal, fetched_byte, step_outcome, int_line, nmi_line, nmi_shown, accepted_answer, refused_answer, step_refusal, step_answer, step_ram, giving}
 use Rattle.step_rules.specs.ShortCuts.{only_byte, Ready, ReadsDirectly, FetchesDirectly, StoresDirectly, BanksWhole, writes_maps, commands, MapsStand, BootStands, LineStands}
 use Rattle.step_rules.proofs.After.{after_step}
-use Rattle.step_rules.proofs.Answers.{lent_good, own_accepted, own_ram, step_own, step_own_ram, plain}
+use Rattle.step_rules.proofs.Answers.{lent_good, own_ram, own_other, step_own, step_own_ram, plain}
 use Rattle.step_rules.proofs.Good.{step_sizes}
 
 -- a good record that is answered with shows no NMI, and stays
-shown_byte : (b : Board) (byte : ℕ) → (eqb b.disc.route 1 && eqb b.disc.line 1) ≡ false → answer_of (accepts b (giving byte)) ≡ only_byte b byte
-unfolding answer_of nmi_shown nmi_line
+shown_byte : (b : Board) (byte : ℕ) → (eqb b.disc.route 1 && eqb b.disc.line 1) ≡ false → accepted_answer b (giving byte) ≡ only_byte b byte
+unfolding accepted_answer nmi_shown nmi_line
 shown_byte b byte e = rw e
 
 -- an accepted step that leaves the record
 module _ (b : Board) (ram boot : List ℕ) (r : Ready b ram boot) (s : Step) (byte : ℕ) where
   still : own_refusal b (length boot) s ≡ 0 → board_after b ram s ≡ b → step_outcome b ram boot s ≡ giving byte → step_answer b ram boot s ≡ only_byte b byte
+  unfolding step_answer
   still e k o =
-      sym (step_own b ram boot s r.lent)
-      ∙ ap answer_of (sym (own_accepted b ram boot s e))
-      ∙ rw (k, o) (shown_byte b byte (good_nmi b (lent_good b (length ram) (length boot) r.lent)))
+      rw (step_own b ram boot s r.lent ∙ e, k, o) (shown_byte b byte (good_nmi b (lent_good b (length ram) (length boot) r.lent)))
 
   left : own_refusal b (length boot) s ≡ 0 → step_ram b ram boot s ≡ ram_after b.sizes b.paging ram s
   left e = sym (own_ram b ram boot s e ∙ step_own_ram b ram boot s r.lent)
@@ -145,5 +143,11 @@ int_shown b =
     go false e l = refl
 
 pub line_stands : LineStands
-unfolding answer_of
-line_stands b ram boot s l = subst (λ (a : Answer). a.reply.int ≡ int_line a.board) (step_own b ram boot s l) (sym (int_shown (step_effect b ram boot s).board))
+unfolding step_answer accepted_answer refused_answer
+line_stands b ram boot s l = go (eqb (step_refusal b ram boot s) 0)
+  where
+    go : (t : Bool)
+        → (cond t (accepted_answer (board_after b ram s) (step_outcome b ram boot s)) (refused_answer b (step_refusal b ram boot s))).reply.int
+        ≡ int_line (cond t (accepted_answer (board_after b ram s) (step_outcome b ram boot s)) (refused_answer b (step_refusal b ram boot s))).board
+    go true = sym (int_shown (board_after b ram s))
+    go false = rw (own_other b ram boot s l)

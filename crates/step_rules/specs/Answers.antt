@@ -1,11 +1,13 @@
 -- What a step answers, and when it is refused: document 01, "Steps" and "Refusal numbers".
 use Rattle.std.specs.Prelude.{ℕ, Bool, false, cond, not, ◌&&◌, ◌||◌, List, [], ◌∷◌, eqb, leb, get_or, length}
+use Rattle.refusal.specs.Numbers.{answered}
 use Rattle.paging.specs.declared.Sizes.{Sizes}
 use Rattle.paging.specs.Maps.{ram_fits}
 use Rattle.paging.specs.Memory.{read_index}
 use Rattle.board.specs.declared.record.Board.{Board}
 use Rattle.board.specs.Record.{record_refusal, first_refusal, with_disc}
-use Rattle.step_rules.specs.declared.Answer.{Answer}
+use Rattle.step_rules.specs.declared.Answer as declared_answer
+use Rattle.step_rules.specs.declared.Reply as declared_reply
 use Rattle.step_rules.specs.declared.Effect.{Effect}
 use Rattle.step_rules.specs.declared.Outcome.{Outcome}
 use Rattle.step_rules.specs.declared.Step.{Step}
@@ -72,6 +74,18 @@ step_outcome b ram boot s =
 
 -- ---- answers
 
+-- what the firmware is told: a byte, the lines, whether the access is forwarded, and the refusal number or 0
+pub record Reply : Type 0 where
+  pub byte : ℕ
+  pub int : Bool
+  pub nmi : Bool
+  pub forwarded : Bool
+  pub refusal : ℕ
+
+pub record Answer : Type 0 where
+  pub board : Board
+  pub reply : Reply
+
 -- "INT stands while the counter is not 0, or the external line is on, or the disc line is on with route INT."
 unfoldable pub int_line : Board → Bool
 int_line b = not (eqb b.clock.counter 0) || (eqb b.external 1 || (eqb b.disc.line 1 && eqb b.disc.route 2))
@@ -112,24 +126,24 @@ step_answer b ram boot s =
 unfoldable pub step_ram : Board → List ℕ → List ℕ → Step → List ℕ
 step_ram b ram boot s = cond (eqb (step_refusal b ram boot s) 0) (ram_after b.sizes b.paging ram s) ram
 
--- ---- the same once record and buffers are found good, before the lines are looked at
+-- ---- the same as the code has it, where a refusal stands in place of an outcome
 
-abbrev pub accepts : Board → Outcome → Effect
-accepts b outcome = record { board = b; outcome = outcome; refusal = 0 }
+abbrev pub told_reply : Reply → declared_reply.Reply
+told_reply r = record { outcome = answered r.refusal (record { byte = r.byte; forwarded = r.forwarded }); int = r.int; nmi = r.nmi }
 
-abbrev pub refuses : Board → ℕ → Effect
-refuses b number = record { board = b; outcome = silent; refusal = number }
+abbrev pub told : Answer → declared_answer.Answer
+told a = record { board = a.board; reply = told_reply a.reply }
 
+-- what a kind does once record and buffers are found good, before the lines are looked at; refused, it leaves the record
 unfoldable pub step_effect : Board → List ℕ → List ℕ → Step → Effect
-step_effect b ram boot s =
-    cond (eqb (own_refusal b (length boot) s) 0) (accepts (board_after b ram s) (step_outcome b ram boot s)) (refuses b (own_refusal b (length boot) s))
+step_effect b ram boot s = record {
+  board = cond (eqb (own_refusal b (length boot) s) 0) (board_after b ram s) b;
+  outcome = answered (own_refusal b (length boot) s) (step_outcome b ram boot s);
+}
 
 unfoldable pub effect_ram : Board → List ℕ → List ℕ → Step → List ℕ
 effect_ram b ram boot s = cond (eqb (own_refusal b (length boot) s) 0) (ram_after b.sizes b.paging ram s) ram
 
 -- the lines of the record, shown for a refusal too: a good one's NMI is off (`step_own`)
-unfoldable pub answer_of : Effect → Answer
-answer_of e = record {
-  board = nmi_shown e.board;
-  reply = record { byte = e.outcome.byte; int = int_line e.board; nmi = nmi_line e.board; forwarded = e.outcome.forwarded; refusal = e.refusal };
-}
+unfoldable pub answer_of : Effect → declared_answer.Answer
+answer_of e = record { board = nmi_shown e.board; reply = record { outcome = e.outcome; int = int_line e.board; nmi = nmi_line e.board } }

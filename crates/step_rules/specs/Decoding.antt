@@ -1,16 +1,10 @@
 -- A step from plain numbers.
-use Rattle.std.specs.Prelude.{ℕ, Bool, cond, ◌&&◌, ◌||◌, List, [], ◌∷◌, eqb, leb, length}
+use Rattle.std.specs.Prelude.{ℕ, Bool, cond, ◌&&◌, ◌||◌, List, [], ◌∷◌, eqb, leb, length, Option, Some, None}
 use Rattle.board.specs.declared.record.Board.{Board}
 use Rattle.board.specs.Record.{first_refusal}
-use Rattle.step_rules.specs.declared.Answer.{Answer}
 use Rattle.step_rules.specs.declared.Step.{Step}
 use Rattle.step_rules.specs.declared.Step.TheVariants.{Fetch, Read, Write, PortIn, PortOut, Scan, Key, DiscLine, ExternalLine}
-use Rattle.step_rules.specs.Answers.{lent_refusal, refused_answer, step_answer, step_ram}
-
--- what a kind, a number and a value name: a step, or none
-pub data Decoded : Type 0 where
-  a_step : Step → Decoded
-  no_step : Decoded
+use Rattle.step_rules.specs.Answers.{Answer, lent_refusal, refused_answer, step_answer, step_ram}
 
 -- the largest number and value of a kind, 1 to 9 in document 01's order: "Addresses are 0 to 65,535; channels, offsets and values are
 -- bytes." A line's value is 0 or 1; where a kind takes no number or no value, that is 0.
@@ -33,19 +27,20 @@ step_named kind number value =
     (cond (eqb kind 6) Scan
     (cond (eqb kind 7) (Key number value) (cond (eqb kind 8) (DiscLine (eqb value 1)) (ExternalLine (eqb value 1)))))))))
 
-unfoldable pub decoded : ℕ → ℕ → ℕ → Decoded
-decoded kind number value = cond (in_range kind number value) (a_step (step_named kind number value)) no_step
+-- what a kind, a number and a value name: a step, or none
+unfoldable pub decoded : ℕ → ℕ → ℕ → Option Step
+decoded kind number value = cond (in_range kind number value) (Some (step_named kind number value)) None
 
 -- the step; in place of none a keyboard word that is refused just as what names no step is (`numbers_answer_lem`)
-unfoldable pub step_of : Decoded → Step
-step_of (a_step s) = s
-step_of no_step = Key 16 0
+unfoldable pub step_of : Option Step → Step
+step_of (Some s) = s
+step_of None = Key 16 0
 
 -- what a step by its numbers answers, and the RAM that it leaves; what names no step is refused with 3, after 1 and 2
-unfoldable pub numbers_answer : Board → List ℕ → List ℕ → Decoded → Answer
-numbers_answer b ram boot (a_step s) = step_answer b ram boot s
-numbers_answer b ram boot no_step = refused_answer b (first_refusal (lent_refusal b (length ram) (length boot) ∷ 3 ∷ []))
+unfoldable pub numbers_answer : Board → List ℕ → List ℕ → Option Step → Answer
+numbers_answer b ram boot (Some s) = step_answer b ram boot s
+numbers_answer b ram boot None = refused_answer b (first_refusal (lent_refusal b (length ram) (length boot) ∷ 3 ∷ []))
 
-unfoldable pub numbers_ram : Board → List ℕ → List ℕ → Decoded → List ℕ
-numbers_ram b ram boot (a_step s) = step_ram b ram boot s
-numbers_ram b ram boot no_step = ram
+unfoldable pub numbers_ram : Board → List ℕ → List ℕ → Option Step → List ℕ
+numbers_ram b ram boot (Some s) = step_ram b ram boot s
+numbers_ram b ram boot None = ram

@@ -6,11 +6,10 @@ use Rattle.paging.specs.declared.Sizes.{Sizes}
 use Rattle.paging.specs.declared.Paging.{Paging}
 use Rattle.paging.specs.Memory.{bank_of, place_of, index_of, read_block, write_block, read_index, write_index}
 use Rattle.board.specs.declared.record.Board.{Board}
-use Rattle.step_rules.specs.declared.Answer.{Answer}
 use Rattle.step_rules.specs.declared.Step.{Step}
 use Rattle.step_rules.specs.declared.Step.TheVariants.{Fetch, Read, Write}
 use Rattle.step_rules.specs.Kinds.{on_out}
-use Rattle.step_rules.specs.Answers.{lent_refusal, int_line, step_answer, step_ram}
+use Rattle.step_rules.specs.Answers.{Answer, lent_refusal, int_line, step_answer, step_ram}
 
 -- an answer that gives a byte and nothing else: the record given, INT as the record has it, accepted
 abbrev pub only_byte : Board → ℕ → Answer

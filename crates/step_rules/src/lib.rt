@@ -5,6 +5,7 @@ mod numbers;
 
 use board::Board;
 pub use numbers::decode_step;
+use refusal::Refusal;
 
 // A step's kind with its plain arguments: addresses, ports (document 01: channels), offsets and values.
 #[derive(Clone, Copy)]
@@ -20,15 +21,20 @@ pub enum Step {
     ExternalLine(bool),
 }
 
-// What the firmware is told: a byte (0 where there is none), the INT and NMI lines, whether the access is forwarded to the
-// host (document 01: passed on), and the refusal number or 0.
+// What an accepted step gives beside the record: a byte (0 where there is none), and whether the access is forwarded to the host
+// (document 01: passed on).
+#[derive(Clone, Copy)]
+pub struct Outcome {
+    pub byte: u8,
+    pub forwarded: bool,
+}
+
+// What the firmware is told: the outcome or why there is none, and the INT and NMI lines.
 #[derive(Clone, Copy)]
 pub struct Reply {
-    pub byte: u8,
+    pub outcome: Result<Outcome, Refusal>,
     pub int: bool,
     pub nmi: bool,
-    pub forwarded: bool,
-    pub refusal: u8,
 }
 
 #[derive(Clone, Copy)]
@@ -37,18 +43,10 @@ pub struct Answer {
     pub reply: Reply,
 }
 
-// What an accepted step gives beside the record.
-#[derive(Clone, Copy)]
-pub struct Outcome {
-    pub byte: u8,
-    pub forwarded: bool,
-}
-
-// What a kind does once record and buffers are found good: the record as it leaves it, its outcome, and its own refusal
-// number or 0, with the record given.
+// What a kind does before the lines are looked at: the record as it leaves it, and its outcome; or its refusal, with the record
+// given.
 #[derive(Clone, Copy)]
 pub struct Effect {
     pub board: Board,
-    pub outcome: Outcome,
-    pub refusal: u8,
+    pub outcome: Result<Outcome, Refusal>,
 }

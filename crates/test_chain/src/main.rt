@@ -7,53 +7,26 @@
 // does nothing.
 #![tactic(auto)]
 
-mod chain;
-mod memory;
+mod machine;
+mod op;
 
-use reading::read_full;
+use crate::machine::Machine;
+use crate::op::Op;
+use reading::read_group;
 use std::io;
-use std::io::Read;
-
-#[derive(Clone, Copy)]
-struct Group {
-    read: bool,
-    op: u8,
-    a: u8,
-    b: u8,
-    c: u8,
-    v: u8,
-}
-
-// The next group of the list, if there is one.
-fn next_group(input: &mut impl Read) -> io::Result<Group> {
-    let mut g = [0u8; 5];
-    let got = read_full(input, &mut g)?;
-    Ok(Group {
-        read: got == 5,
-        op: g[0],
-        a: g[1],
-        b: g[2],
-        c: g[3],
-        v: g[4],
-    })
-}
-
-// The loop counts its turns down, from a number that no run uses up, so that it is proved to end.
-fn play(rt: &impl Print, input: &mut impl Read, ram: &mut [u8]) -> io::Result<()> {
-    let mut b = chain::start(50);
-    let mut turns = u64::MAX;
-    while turns > 0 {
-        let g = next_group(input)?;
-        if !g.read {
-            return Ok(());
-        }
-        b = chain::next(rt, b, g.op, g.a, memory::index(g.a, g.b, g.c), g.v, ram)?;
-        turns -= 1;
-    }
-    Ok(())
-}
 
 fn main(rt: HostRuntime) -> io::Result<()> {
-    let mut ram = [0u8; 131072];
-    play(&rt, &mut rt.reader(), &mut ram)
+    let mut machine = Machine {
+        board: test_board::start(50),
+        ram: [0; 131072],
+    };
+    let mut input = rt.reader();
+    // A proved loop ends: this one at a number that no run uses up.
+    for _ in 0..u64::MAX {
+        let Some(group) = read_group(&mut input)? else {
+            return Ok(());
+        };
+        machine.take(&rt, Op::from(group))?;
+    }
+    Ok(())
 }

@@ -6,18 +6,17 @@ mod sets;
 mod wide;
 
 use std::io;
-use test_print::text;
 
 fn main(rt: HostRuntime) -> io::Result<()> {
-    text(&rt, b"== sets of lines\n")?;
+    println!(rt; "== sets of lines")?;
     sets::sets(&rt)?;
-    text(&rt, b"== the next line of a set\n")?;
+    println!(rt; "== the next line of a set")?;
     sets::lines(&rt)?;
-    text(&rt, b"== indexes\n")?;
+    println!(rt; "== indexes")?;
     memory::indexes(&rt)?;
-    text(&rt, b"== bytes and pointer words\n")?;
+    println!(rt; "== bytes and pointer words")?;
     memory::table(&rt)?;
-    text(&rt, b"== a line widened\n")?;
+    println!(rt; "== a line widened")?;
     wide::wide(&rt)?;
     wide::not_wide(&rt)
 }

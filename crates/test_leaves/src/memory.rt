@@ -1,12 +1,9 @@
 // Indexes of the RAM, what stands there, and the lines that a store there touches.
 use crate::sets::counted;
-use paging::{Paging, Sizes};
+use paging::{Paging, Sizes, byte_at, keyboard_index};
+use scanline::{entry_index, pointer_word};
+use scanline_touch::touched;
 use std::io;
-use test_print::{hex, text};
-
-fn index(rt: &impl Print, name: &[u8], at: usize) -> io::Result<()> {
-    hex(rt, name, at as u64, 6)
-}
 
 // The indexes that an address reads and writes.
 fn reach(rt: &impl Print, internal: u8, total: u8, address: u16) -> io::Result<()> {
@@ -16,10 +13,9 @@ fn reach(rt: &impl Print, internal: u8, total: u8, address: u16) -> io::Result<(
         lock: 0x40,
     };
     let r = p.reach(sizes, address);
-    hex(rt, b"address ", address as u64, 4)?;
-    index(rt, b": read ", paging::index(r.read, r.place))?;
-    index(rt, b" write ", paging::index(r.write, r.place))?;
-    text(rt, b"\n")
+    let read = paging::index(r.read, r.place);
+    let write = paging::index(r.write, r.place);
+    println!(rt; "address {address:04x}: read {read:06x} write {write:06x}")
 }
 
 pub(crate) fn indexes(rt: &impl Print) -> io::Result<()> {
@@ -28,77 +24,48 @@ pub(crate) fn indexes(rt: &impl Print) -> io::Result<()> {
     reach(rt, 32, 40, 0x8001)?;
     reach(rt, 8, 41, 0x8001)?;
     reach(rt, 8, 8, 0xffff)?;
-    index(rt, b"keyboard bytes ", paging::keyboard_index(0))?;
-    index(rt, b" ", paging::keyboard_index(15))?;
-    index(
-        rt,
-        b"\nentry of line 1, F6 = 255: ",
-        scanline::entry_index(0x99, 255, 1),
+    println!(rt;
+        "keyboard bytes {:06x} {:06x}",
+        keyboard_index(0),
+        keyboard_index(15)
     )?;
-    index(rt, b" F6 = 254: ", scanline::entry_index(0x99, 254, 1))?;
-    index(
-        rt,
-        b" line 255, F6 = 0: ",
-        scanline::entry_index(0xff, 0, 255),
+    print!(rt;
+        "entry of line 1, F6 = 255: {:06x}",
+        entry_index(0x99, 255, 1)
     )?;
-    text(rt, b"\n")
+    print!(rt; " F6 = 254: {:06x}", entry_index(0x99, 254, 1))?;
+    println!(rt; " line 255, F6 = 0: {:06x}", entry_index(0xff, 0, 255))
 }
 
 fn bytes(rt: &impl Print, ram: &[u8]) -> io::Result<()> {
-    hex(rt, b"first ", paging::byte_at(ram, 0) as u64, 2)?;
-    hex(rt, b" last ", paging::byte_at(ram, 1023) as u64, 2)?;
-    hex(rt, b" past the end ", paging::byte_at(ram, 1024) as u64, 2)?;
-    hex(
-        rt,
-        b"\nline 0 ",
-        scanline::pointer_word(ram, 0, 0, 0) as u64,
-        4,
+    print!(rt;
+        "first {:02x} last {:02x}",
+        byte_at(ram, 0),
+        byte_at(ram, 1023)
     )?;
-    hex(
-        rt,
-        b" line 1 ",
-        scanline::pointer_word(ram, 0, 0, 1) as u64,
-        4,
-    )?;
-    hex(
-        rt,
-        b" from top line 255 ",
-        scanline::pointer_word(ram, 0, 255, 1) as u64,
-        4,
-    )?;
-    hex(
-        rt,
-        b" past the end ",
-        scanline::pointer_word(ram, 2, 0, 0) as u64,
-        4,
-    )?;
-    text(rt, b"\n")
+    println!(rt; " past the end {:02x}", byte_at(ram, 1024))?;
+    print!(rt; "line 0 {:04x}", pointer_word(ram, 0, 0, 0))?;
+    print!(rt; " line 1 {:04x}", pointer_word(ram, 0, 0, 1))?;
+    print!(rt; " from top line 255 {:04x}", pointer_word(ram, 0, 255, 1))?;
+    println!(rt; " past the end {:04x}", pointer_word(ram, 2, 0, 0))
 }
 
 fn touches(rt: &impl Print, ram: &[u8]) -> io::Result<()> {
-    counted(rt, b"000000 ", scanline_touch::touched(ram, 0, 0, 0))?;
-    counted(rt, b"000001 ", scanline_touch::touched(ram, 0, 0, 1))?;
-    counted(
-        rt,
-        b"000002, from top line 2 ",
-        scanline_touch::touched(ram, 0, 2, 2),
-    )?;
-    counted(rt, b"000008 ", scanline_touch::touched(ram, 0, 0, 8))?;
-    counted(rt, b"000401 ", scanline_touch::touched(ram, 0, 0, 0x401))?;
-    counted(rt, b"0006c9 ", scanline_touch::touched(ram, 0, 0, 0x6c9))?;
-    counted(rt, b"004000 ", scanline_touch::touched(ram, 0, 0, 0x4000))?;
-    counted(rt, b"020000 ", scanline_touch::touched(ram, 0, 0, 0x20000))
+    counted(rt, "000000", touched(ram, 0, 0, 0))?;
+    counted(rt, "000001", touched(ram, 0, 0, 1))?;
+    counted(rt, "000002, from top line 2", touched(ram, 0, 2, 2))?;
+    counted(rt, "000008", touched(ram, 0, 0, 8))?;
+    counted(rt, "000401", touched(ram, 0, 0, 0x401))?;
+    counted(rt, "0006c9", touched(ram, 0, 0, 0x6c9))?;
+    counted(rt, "004000", touched(ram, 0, 0, 0x4000))?;
+    counted(rt, "020000", touched(ram, 0, 0, 0x20000))
 }
 
 // A table at block 0: line 0 has the word 0201h, line 255 of the second table 9897h.
 pub(crate) fn table(rt: &impl Print) -> io::Result<()> {
-    let mut ram = [0u8; 1024];
-    ram[0] = 0x01;
-    ram[1] = 0x02;
-    ram[2] = 0x03;
-    ram[3] = 0x04;
-    ram[1022] = 0x97;
-    ram[1023] = 0x98;
+    let mut ram = [0; 1024];
+    ram[..4].copy_from_slice(&[0x01, 0x02, 0x03, 0x04]);
+    ram[1022..].copy_from_slice(&[0x97, 0x98]);
     bytes(rt, &ram)?;
     touches(rt, &ram)
 }

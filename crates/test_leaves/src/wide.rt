@@ -1,41 +1,34 @@
 // A line widened for the panel, and lengths that are refused.
-use std::io;
-use test_print::{byte, hex, text};
+use std::{fmt, io};
 
-fn print_bytes(rt: &impl Print, s: &[u8]) -> io::Result<()> {
-    let n = s.len();
-    for i in 0..n {
-        byte(rt, b"", s[i])?;
+// Bytes in hex, with nothing between them.
+#[derive(Clone, Copy)]
+struct Hex<'a>(&'a [u8]);
+
+impl fmt::Display for Hex<'_> {
+    fn fmt<W: fmt::Write>(&self, f: &mut fmt::Formatter<W>) -> fmt::Result {
+        for byte in self.0 {
+            write!(f, "{byte:02x}")?;
+        }
+        Ok(())
     }
-    text(rt, b"\n")
 }
 
 fn widened(rt: &impl Print, line: &[u8], out: &mut [u8]) -> io::Result<()> {
-    hex(rt, b"refusal ", panel::widen(line, out) as u64, 1)?;
-    text(rt, b" ")?;
-    print_bytes(rt, out)
-}
-
-fn fill(line: &mut [u8]) {
-    let n = line.len();
-    for i in 0..n {
-        line[i] = (i % 256 * 37 % 256) as u8;
-    }
+    let refusal = panel::widen(line, out).err();
+    println!(rt; "refusal {} {}", refusal.map_or(0, u8::from), Hex(out))
 }
 
 pub(crate) fn wide(rt: &impl Print) -> io::Result<()> {
-    let mut line = [0u8; 90];
-    fill(&mut line);
-    let mut out = [0x77u8; 180];
-    widened(rt, &line, &mut out)
+    let mut line = [0; 90];
+    for (i, byte) in line.iter_mut().enumerate() {
+        *byte = (i % 256 * 37 % 256) as u8;
+    }
+    widened(rt, &line, &mut [0x77; 180])
 }
 
 pub(crate) fn not_wide(rt: &impl Print) -> io::Result<()> {
-    let line = [0u8; 90];
-    let long = [0u8; 91];
-    let mut short = [0x77u8; 179];
-    widened(rt, &line, &mut short)?;
-    let mut out = [0x77u8; 180];
-    widened(rt, &long, &mut out)?;
-    widened(rt, b"", &mut out)
+    widened(rt, &[0; 90], &mut [0x77; 179])?;
+    widened(rt, &[0; 91], &mut [0x77; 180])?;
+    widened(rt, &[], &mut [0x77; 180])
 }

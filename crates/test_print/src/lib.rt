@@ -1,133 +1,88 @@
-// Prints texts, numbers, records and answers to standard output: addresses, bytes and registers in hex, all else in decimal.
-// No clause can say what is written: these return nothing, or that a write failed, and end.
+// How the test programs show a set of lines, a record and a step's reply: addresses, bytes and registers in hex, all else in decimal.
 #![tactic(auto)]
 
-ghost use Rattle.std.specs.Prelude.{◌≡◌, IfOk};
-
-use board::{Board, Boot, Clock, Disc};
+use board::{Board, Boot, Clock};
 use lineset::LineSet;
-use paging::Paging;
-use scanline::Video;
-use std::io;
-use step::Answer;
-
-pub fn text(rt: &impl Print, label: &[u8]) -> io::Result<()>
-    ensures { IfOk result (λ x. x ≡ tt) }
-{
-    rt.write_all(label)
-}
-
-pub fn small(rt: &impl Print, name: &[u8], n: u8) -> io::Result<()>
-    ensures { IfOk result (λ x. x ≡ tt) }
-{
-    text(rt, name)?;
-    print!(rt; "{n}")
-}
-
-pub fn medium(rt: &impl Print, name: &[u8], n: u16) -> io::Result<()>
-    ensures { IfOk result (λ x. x ≡ tt) }
-{
-    text(rt, name)?;
-    print!(rt; "{n}")
-}
-
-pub fn flag(rt: &impl Print, name: &[u8], on: bool) -> io::Result<()>
-    ensures { IfOk result (λ x. x ≡ tt) }
-{
-    small(rt, name, on as u8)
-}
-
-pub fn byte(rt: &impl Print, name: &[u8], n: u8) -> io::Result<()>
-    ensures { IfOk result (λ x. x ≡ tt) }
-{
-    text(rt, name)?;
-    print!(rt; "{n:02x}")
-}
-
-// At least as many digits as `width`, which counts as 16 where it is more.
-pub fn hex(rt: &impl Print, name: &[u8], n: u64, width: usize) -> io::Result<()>
-    ensures { IfOk result (λ x. x ≡ tt) }
-{
-    text(rt, name)?;
-    let width = width.min(16);
-    print!(rt; "{n:0width$x}")
-}
+use std::fmt;
+use step_rules::Answer;
 
 // A set's four words, the lines from 0 up first.
-pub fn set(rt: &impl Print, name: &[u8], s: LineSet) -> io::Result<()>
-    ensures { IfOk result (λ x. x ≡ tt) }
-{
-    hex(rt, name, s.words[0], 16)?;
-    hex(rt, b" ", s.words[1], 16)?;
-    hex(rt, b" ", s.words[2], 16)?;
-    hex(rt, b" ", s.words[3], 16)
-}
+#[derive(Clone, Copy)]
+pub struct Words(pub LineSet);
 
-fn paging_bytes(rt: &impl Print, p: Paging) -> io::Result<()> {
-    byte(rt, b" maps ", p.maps[0])?;
-    byte(rt, b" ", p.maps[1])?;
-    byte(rt, b" ", p.maps[2])?;
-    byte(rt, b" ", p.maps[3])?;
-    byte(rt, b" lock ", p.lock)
-}
-
-fn video_bytes(rt: &impl Print, v: Video) -> io::Result<()> {
-    byte(rt, b" F5 ", v.table)?;
-    byte(rt, b" F6 ", v.top)?;
-    byte(rt, b" F7 ", v.control)
+impl fmt::Display for Words {
+    fn fmt<W: fmt::Write>(&self, f: &mut fmt::Formatter<W>) -> fmt::Result {
+        let [a, b, c, d] = self.0.words;
+        write!(f, "{a:016x} {b:016x} {c:016x} {d:016x}")
+    }
 }
 
 // Counter, beam, boot mode and the place in the boot stream.
-fn times(rt: &impl Print, c: Clock, b: Boot) -> io::Result<()> {
-    small(rt, b" counter ", c.counter)?;
-    medium(rt, b" beam ", c.beam)?;
-    small(rt, b" boot ", b.mode)?;
-    medium(rt, b" at ", b.at)
-}
+#[derive(Clone, Copy)]
+struct Times(Clock, Boot);
 
-fn disc_bytes(rt: &impl Print, d: Disc) -> io::Result<()> {
-    small(rt, b" route ", d.route)?;
-    small(rt, b" line ", d.line)?;
-    small(rt, b" count ", d.terminal_count)?;
-    small(rt, b" motor ", d.motor)
+impl fmt::Display for Times {
+    fn fmt<W: fmt::Write>(&self, f: &mut fmt::Formatter<W>) -> fmt::Result {
+        let Times(clock, boot) = self;
+        write!(f, "counter {} beam {}", clock.counter, clock.beam)?;
+        write!(f, " boot {} at {}", boot.mode, boot.at)
+    }
 }
 
 // All of a record but the dirty lines.
-pub fn record(rt: &impl Print, b: Board) -> io::Result<()>
-    ensures { IfOk result (λ x. x ≡ tt) }
-{
-    small(rt, b"   ", b.sizes.internal)?;
-    small(rt, b" of ", b.sizes.total)?;
-    small(rt, b" rate ", b.rate)?;
-    paging_bytes(rt, b.paging)?;
-    video_bytes(rt, b.video)?;
-    times(rt, b.clock, b.boot)?;
-    disc_bytes(rt, b.disc)?;
-    small(rt, b" external ", b.external)?;
-    small(rt, b" driven ", b.driven)?;
-    small(rt, b" bleeper ", b.bleeper)
+#[derive(Clone, Copy)]
+pub struct Record(pub Board);
+
+impl fmt::Display for Record {
+    fn fmt<W: fmt::Write>(&self, f: &mut fmt::Formatter<W>) -> fmt::Result {
+        let b = self.0;
+        write!(
+            f,
+            "{} of {} rate {}",
+            b.sizes.internal, b.sizes.total, b.rate
+        )?;
+        let [m0, m1, m2, m3] = b.paging.maps;
+        write!(f, " maps {m0:02x} {m1:02x} {m2:02x} {m3:02x}")?;
+        write!(f, " lock {:02x}", b.paging.lock)?;
+        let v = b.video;
+        write!(
+            f,
+            " F5 {:02x} F6 {:02x} F7 {:02x}",
+            v.table, v.top, v.control
+        )?;
+        write!(f, " {}", Times(b.clock, b.boot))?;
+        let d = b.disc;
+        write!(f, " route {} line {}", d.route, d.line)?;
+        write!(f, " count {} motor {}", d.terminal_count, d.motor)?;
+        write!(f, " external {} driven {}", b.external, b.driven)?;
+        write!(f, " bleeper {}", b.bleeper)
+    }
 }
 
-pub fn dirty_lines(rt: &impl Print, b: Board) -> io::Result<()>
-    ensures { IfOk result (λ x. x ≡ tt) }
-{
-    set(rt, b"   dirty ", b.dirty)?;
-    text(rt, b"\n")
-}
+// A step's reply, with what of the record moves most.
+#[derive(Clone, Copy)]
+pub struct Reply(pub Answer);
 
-// A step's line after its numbers: the reply, with what of the record moves most.
-pub fn answer(rt: &impl Print, a: Answer) -> io::Result<()>
-    ensures { IfOk result (λ x. x ≡ tt) }
-{
-    byte(rt, b": ", a.reply.byte)?;
-    flag(rt, b" int ", a.reply.int)?;
-    flag(rt, b" nmi ", a.reply.nmi)?;
-    flag(rt, b" host ", a.reply.forwarded)?;
-    small(rt, b" refusal ", a.reply.refusal)?;
-    let b = a.board;
-    times(rt, b.clock, b.boot)?;
-    small(rt, b" route ", b.disc.route)?;
-    let dirty = b.dirty;
-    medium(rt, b" dirty ", dirty.count())?;
-    text(rt, b"\n")
+impl fmt::Display for Reply {
+    fn fmt<W: fmt::Write>(&self, f: &mut fmt::Formatter<W>) -> fmt::Result {
+        let Answer { board, reply } = self.0;
+        let (byte, forwarded, refusal) = match reply.outcome {
+            Ok(outcome) => (outcome.byte, outcome.forwarded, 0),
+            Err(refusal) => (0, false, u8::from(refusal)),
+        };
+        write!(
+            f,
+            "{byte:02x} int {} nmi {}",
+            u8::from(reply.int),
+            u8::from(reply.nmi)
+        )?;
+        write!(f, " host {} refusal {refusal}", u8::from(forwarded))?;
+        write!(f, " {}", Times(board.clock, board.boot))?;
+        write!(
+            f,
+            " route {} dirty {}",
+            board.disc.route,
+            board.dirty.count()
+        )
+    }
 }

@@ -1,9 +1,36 @@
-use Rattle.picture.proofs.Answers.{draw_refused, draw_accepted}
+use Rattle.std.proofs.Common.{◌≡◌, length, ◌∙◌, rules}
+use Rattle.std.specs.Prelude.{Err}
+use Rattle.picture.proofs.Answers.{lent_err, lent_enough, size_wrong, size_right, draw_refused, draw_stays, draw_accepted, draw_drawn}
 use Rattle.picture.proofs.draw.Goals as goal
 
-pub returns-then-refusal-ne0 : goal.returns-then-refusal-ne0
-returns-then-refusal-ne0 c = draw_refused _ _ _ _ c.picture_refusal-refusal.ensures c.if-refusal-ne0.true
+pub returns-in_err-check_lent-clause-answer : goal.returns-in_err-check_lent-clause-answer
+returns-in_err-check_lent-clause-answer c =
+    let k : c.from_residual.result ≡ Err c.in_err-check_lent.field-0.0 = search rules in
+    let e = lent_err c.args.b (length c.args.ram.now) (length c.args.picture.now) _ c.check_lent.ensures _ c.in_err-check_lent.was in
+    k ∙ draw_refused _ _ _ _ e.0 e.1
 
-pub returns : goal.returns
-returns c =
-    draw_accepted _ _ _ _ c.picture_refusal-refusal.ensures c.if-refusal-ne0.false _ _ _ c.is_floating.ensures c.shown_count.ensures c.paint_first.ensures
+pub returns-in_err-check_lent-clause-drawn : goal.returns-in_err-check_lent-clause-drawn
+returns-in_err-check_lent-clause-drawn c =
+    draw_stays _ _ _ (lent_err c.args.b (length c.args.ram.now) (length c.args.picture.now) _ c.check_lent.ensures _ c.in_err-check_lent.was).0
+
+pub returns-in_default-clause-answer : goal.returns-in_default-clause-answer
+returns-in_default-clause-answer c =
+    let e = size_wrong c.args.b (length c.args.ram.now) (length c.args.picture.now) _ c.check_lent.ensures c.in_ok-check_lent.was c.in_default.ensures.cases in
+    draw_refused _ _ _ _ e.0 e.1
+
+pub returns-in_default-clause-drawn : goal.returns-in_default-clause-drawn
+returns-in_default-clause-drawn c =
+    draw_stays _ _ _ (size_wrong c.args.b (length c.args.ram.now) (length c.args.picture.now) _ c.check_lent.ensures c.in_ok-check_lent.was c.in_default.ensures.cases).0
+
+pub invariant_of-view : goal.invariant_of-view
+invariant_of-view c = record { standard = lent_enough _ _ (length c.args.picture.now) _ c.check_lent.ensures c.in_ok-check_lent.was }
+
+pub returns-clause-answer : goal.returns-clause-answer
+returns-clause-answer c =
+    let s = c.in-Some.ensures.cases.long in
+    draw_accepted _ _ _ (size_right _ _ _ _ c.check_lent.ensures c.in_ok-check_lent.was s) _ c.is_floating.ensures
+
+pub returns-clause-drawn : goal.returns-clause-drawn
+returns-clause-drawn c =
+    let s = c.in-Some.ensures.cases.long in
+    draw_drawn _ _ _ (size_right _ _ _ _ c.check_lent.ensures c.in_ok-check_lent.was s) _ _ _ c.in-Some.ensures.cases.same c.shown_count.ensures c.paint_first.ensures

@@ -1,9 +1,9 @@
-use Rattle.std.proofs.Common.{not, ap}
-use Rattle.archive.proofs.Fours.{left_fail, fours_decide}
+use Rattle.std.proofs.Common.{sym, ◌∙◌}
+use Rattle.archive.proofs.Fours.{left_is, left_fails}
 use Rattle.archive.proofs.unique.all_fresh.Goals as goal
 
-pub returns-then-not-first_fresh : goal.returns-then-not-first_fresh
-returns-then-not-first_fresh c = left_fail _ _ _ c.first_fresh.ensures (ap not c.if-not-first_fresh.true)
+pub returns-then-first_fresh : goal.returns-then-first_fresh
+returns-then-first_fresh c = c.fours_fresh.ensures ∙ left_is _ _ (sym c.first_fresh.ensures ∙ c.if-first_fresh.true)
 
-pub returns : goal.returns
-returns c = fours_decide _ _ _ c.first_fresh.ensures (ap not c.if-not-first_fresh.false) _ c.fours_fresh.ensures
+pub returns-else-first_fresh : goal.returns-else-first_fresh
+returns-else-first_fresh c = c.if-first_fresh.false ∙ left_fails _ _ (sym c.first_fresh.ensures ∙ c.if-first_fresh.false)

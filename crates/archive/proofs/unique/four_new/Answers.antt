@@ -1,16 +1,14 @@
-use Rattle.std.proofs.Common.{◌≡◌, refl, sym, ◌∙◌, arith}
+use Rattle.std.proofs.Common.{◌≡◌, refl, sym, ◌∙◌, arith, length}
 use Rattle.facts.specs.Tests.{every}
-use Rattle.archive.specs.Sound.{is_new}
-use Rattle.archive.proofs.Fours.{four_turn, four_end}
+use Rattle.archive.proofs.Fours.{none_has, none_more}
 use Rattle.archive.proofs.unique.four_new.Goals as goal
 
-pub loop-j-init : goal.loop-j-init
+pub loop-row-init : goal.loop-row-init
 unfolding every
-loop-j-init c = refl
+loop-row-init c = refl
 
-pub loop-j-preserved : goal.loop-j-preserved
-loop-j-preserved c = four_turn _ _ _ _ _ c.loop-j.seen _ c.loop-j.invariant c.one_has-seen.ensures
+pub loop-row-preserved : goal.loop-row-preserved
+loop-row-preserved c = none_more c.args.rows.now _ _ _ _ c.loop-row.invariant c.one_has-seen.ensures
 
 pub returns : goal.returns
-unfolding is_new
-returns c = let e : c.loop-j.j ≡ c.args.n = omega arith in sym (rw e at c.loop-j.invariant) ∙ four_end _ _ _ _ _
+returns c = let e : c.loop-row.row-index ≡ length c.args.rows.now = omega arith in sym (rw e at c.loop-row.invariant) ∙ none_has _ _ _
