@@ -33,7 +33,8 @@ pub fn table_index(table: u8) -> usize
     index(table / 32, 512 * (table % 32) as u16)
 }
 
-// The word of a table's entry; a byte past the RAM's end counts as 0. A RAM of eight blocks or more holds every entry.
+// The word of a table's entry; a byte past the RAM's end counts as 0. A RAM of eight blocks or more holds every entry: the one
+// test of its length stands outside a loop over entries, which is then done sixteen entries at a time.
 #[tactic(auto, using(crate::proofs::Pointers::table_index_lem, crate::proofs::Pointers::entry_0_index), unfolding(crate::specs::Pointers::pointer_word))]
 pub fn entry_word(ram: &[u8], table: u8, entry: u8) -> u16
     ensures { result ≡ pointer_word ram.now table 0 entry }
@@ -71,6 +72,8 @@ impl Video {
     }
 }
 
+// The block and start of a pointer word. This and `make_pointer` are named functions, no `From` and `TryFrom`: a call then says
+// which of the two it does.
 #[tactic(auto, unfolding(crate::specs::Pointers::pointer_of))]
 pub fn read_pointer(word: u16) -> Pointer
     ensures { result ≡ pointer_of word }
@@ -114,7 +117,7 @@ pub fn drawn_byte(control: u8, byte: u8) -> u8
     }
 }
 
-// Whether F5, F6, or D7 or D6 of F7 differ.
+// Whether F5, F6, or D7 or D6 of F7 differ. No derived `==`: the other bits of F7 draw nothing.
 #[tactic(auto, unfolding(crate::specs::Drawing::video_differs))]
 pub fn video_differs(v: Video, w: Video) -> bool
     ensures { result ≡ video_differs v w }

@@ -141,7 +141,7 @@ module _ (ram : List ℕ) (table at : ℕ) where
       ∙ ap (λ (k : ℕ). packed (touches ram table 0 at) k 64) (add-zero (64 * quarter))
 
   -- the quarters go round after four
-  pub quarter_round : (q n m : ℕ) → q ≡ n % 4 → m ≡ packed (touches ram table 0 at) (64 * q) 64 → m ≡ packed (touches ram table 0 at) (64 * n) 64
+  quarter_round : (q n m : ℕ) → q ≡ n % 4 → m ≡ packed (touches ram table 0 at) (64 * q) 64 → m ≡ packed (touches ram table 0 at) (64 * n) 64
   quarter_round q n m r h =
       let e : 256 * (n / 4) + 64 * q ≡ 64 * n = omega arith in
       h
@@ -149,7 +149,7 @@ module _ (ram : List ℕ) (table at : ℕ) where
       ∙ ap (λ (k : ℕ). packed (touches ram table 0 at) k 64) e
 
   -- the word of 64 lines from line 64 * n on: two quarters, one behind the other, from the top line's digit on
-  pub lines_word :
+  lines_word :
       (top n low high w : ℕ) →
       low ≡ packed (touches ram table 0 at) (64 * (top / 64 + n)) 64 →
       high ≡ packed (touches ram table 0 at) (64 * (top / 64 + suc n)) 64 →

@@ -1,7 +1,7 @@
 // The lines that a store touches. The table's entries are tested in four quarters, so that 64 bytes of stack serve for all 256.
 #![tactic(auto)]
 
-ghost use Rattle.std.specs.Prelude.{◌≡◌, ℕ, ◌+◌, ◌*◌, ◌≤◌, ◌<◌, Bool, length, get_or};
+ghost use Rattle.std.specs.Prelude.{◌≡◌, ℕ, ◌+◌, ◌*◌, ◌≤◌, ◌<◌, Bool, get_or};
 ghost use mir.Val.{bool_byte};
 ghost use Rattle.lineset.specs.Lines.{set_of, packed};
 ghost use Rattle.scanline.specs.Pointers.{pointer_word};
@@ -39,7 +39,6 @@ impl<'a> Quarter<'a> {
     }
 
     // For each entry a hit, 1 or 0: whether the index is among its pixel bytes or its two pointer bytes.
-    #[tactic(auto, using(crate::proofs::Hits::within, crate::proofs::Hits::outside))]
     fn hits(&self) -> [u8; 64]
         ensures { (j : ℕ) → j < 64 → get_or result j 0 ≡ bool_byte (touches self.now.ram.now self.now.table 0 self.now.at (64 * self.now.number + j)) }
     {
@@ -61,7 +60,6 @@ impl<'a> Quarter<'a> {
 
 // Four hits as a number, the first in the lowest digit. Their bytes make one number; moved up by 21, 14, 7 and 0 digits and added up,
 // in one product, the four stand side by side as its digits 21 to 24, and no two fall on one digit.
-#[tactic(auto, using(crate::proofs::Hits::hits_four))]
 fn four_hits(hits: &[u8; 64], i: usize) -> u64
     requires { i + 4 ≤ 64 }
     ensures upper_bound { result < 16 }
