@@ -1,38 +1,22 @@
 -- The text of the reach list: which line a group has, how long a line is, and the text put down line by line.
-use Prim.Native.Nat.{ℕ, zero, suc, ◌+◌, ◌*◌, ◌/◌, ◌-◌, ◌≤◌, ◌<◌}
+use Prim.Native.Nat.{ℕ, zero, suc, ◌+◌, ◌*◌, ◌/◌, ◌-◌, ◌≤◌, ◌<◌, min}
 use mathlib.Core.Path.{◌≡◌, refl, sym, ap, ◌∙◌}
 use mathlib.Core.List.{List, ◌++◌}
-use mathlib.Core.Bool.{Bool, true, false, not, cond}
+use mathlib.Core.Bool.{Bool, true, false, cond}
 use native.Mathlib.Omega.{arith}
 use native.Mathlib.Numerals.{add-one}
-use borrow.Author.Tests.{not-true, not-false, lt-ltb, le-ltb, ltb-false}
-use lib.Dec.{ltb, lit≤}
-use lib.ListN.{length, take, drop, length-append, length-take, length-drop}
-use lib.Seq.{paste, length-take-le}
+use borrow.Author.Tests.{lt-ltb, le-ltb, ltb-false, leb-true, leb-false}
+use lib.Dec.{ltb, leb, lit≤}
+use lib.ListN.{length, take, drop, length-append, length-drop}
+use lib.Seq.{take_all}
 use Rattle.facts.specs.Lists.{in_room}
 use Rattle.facts.proofs.Rooms.{room_length, room_step}
 use Rattle.paging.specs.Maps.{allowed}
-use Rattle.reach.specs.declared.Listed.{Listed}
+use Rattle.std.specs.Prelude.{Result, Ok, Err, IfOk}
+use Rattle.refusal.specs.declared.Refusal.{Refusal}
+use Rattle.refusal.specs.declared.Refusal.TheVariants.{BadLength}
 use Rattle.reach.specs.Text.{sizes_of, paging_of, address_of, reach_line, refusal_line, whole_line, group_line}
 use Rattle.reach.specs.Text.{hex2, hex4, line_at, text_of, groups, reach_text, listed, listed_out}
-
-module _ (g : List ℕ) (b : Bool) (e : b ≡ allowed (sizes_of g)) where
-  pub whole_refused : not b ≡ true → refusal_line 6 ≡ whole_line g
-  unfolding whole_line
-  whole_refused h = rw (← e, not-true b h)
-
-  pub whole_reached : not b ≡ false → reach_line (sizes_of g) (paging_of g) (address_of g) ≡ whole_line g
-  unfolding whole_line
-  whole_reached h = rw (← e, not-false b h)
-
-module _ (input : List ℕ) (at : ℕ) where
-  pub group_short : length input - at < 9 → refusal_line 2 ≡ group_line (take 9 (drop at input))
-  unfolding group_line
-  group_short h = rw (lt-ltb (length (take 9 (drop at input))) 9 (simp (length-take, length-drop) (omega arith)))
-
-  pub group_whole : 9 ≤ length input - at → whole_line (take 9 (drop at input)) ≡ group_line (take 9 (drop at input))
-  unfolding group_line
-  group_whole h = rw (le-ltb (length (take 9 (drop at input))) 9 (simp (length-take, length-drop) (omega arith)))
 
 -- a line has at most 20 bytes
 reach_line_length : (g : List ℕ) → length (reach_line (sizes_of g) (paging_of g) (address_of g)) ≡ 20
@@ -47,7 +31,7 @@ whole_line_length g = go (allowed (sizes_of g))
     go true = omega (arith, reach_line_length g)
     go false = lit≤ tt
 
-group_line_length : (g : List ℕ) → length (group_line g) ≤ 20
+pub group_line_length : (g : List ℕ) → length (group_line g) ≤ 20
 unfolding group_line refusal_line
 group_line_length g = go (ltb (length g) 9)
   where
@@ -61,13 +45,17 @@ text_length input zero = omega arith
 text_length input (suc k) =
     simp length-append (omega (arith, text_length input k, group_line_length (take 9 (drop (9 * k) input))))
 
--- the copy of a line's bytes puts the line down
-module _ (d bytes line : List ℕ) (to used : ℕ) (text : take used bytes ≡ line) where
-  pub used_length : used ≤ length bytes → to + used ≡ to + length line
-  used_length h = ap (◌+◌ to) (sym (length-take-le used bytes h) ∙ ap length text)
-
-  pub pasted : paste d to bytes used ≡ take to d ++ line ++ drop (to + used) d
-  pasted = rw text
+-- the k-th group, as a part that ends where the input may end
+pub group_cut : (input : List ℕ) (k e : ℕ) → e ≡ min (length input) (9 * k + 9) → take (e - 9 * k) (drop (9 * k) input) ≡ take 9 (drop (9 * k) input)
+group_cut input k e h = go (leb (9 * k + 9) (length input)) refl
+  where
+    go : (b : Bool) → leb (9 * k + 9) (length input) ≡ b → take (e - 9 * k) (drop (9 * k) input) ≡ take 9 (drop (9 * k) input)
+    go true q =
+        let z : e - 9 * k ≡ 9 = omega (arith, leb-true (9 * k + 9) (length input) q) in
+        rw z
+    go false q =
+        take_all (e - 9 * k) (drop (9 * k) input) (simp length-drop (omega (arith, leb-false (9 * k + 9) (length input) q)))
+        ∙ sym (take_all 9 (drop (9 * k) input) (simp length-drop (omega (arith, leb-false (9 * k + 9) (length input) q))))
 
 -- one more line put down after the first k
 module _ (input start out : List ℕ) (k to : ℕ) (at : to ≡ length (text_of input k)) (so_far : out ≡ in_room (text_of input k) start) where
@@ -86,23 +74,25 @@ module _ (input start out : List ℕ) (k to : ℕ) (at : to ≡ length (text_of 
 
 -- the answer: refused, or accepted
 module _ (input start : List ℕ) where
-  pub refused : length start / 20 < groups (length input) → (listed input (length start) ≡ record { length = 0; refusal = 2 }) × (listed_out input start ≡ start)
+  pub refused : length start / 20 < groups (length input) → (listed input (length start) ≡ Err BadLength) × (listed_out input start ≡ start)
   unfolding listed listed_out
   refused h = let t : ltb (length start) (20 * groups (length input)) ≡ true = lt-ltb (length start) (20 * groups (length input)) (omega arith) in (rw t, rw t)
 
-  pub accepted : groups (length input) ≤ length start / 20 → (listed input (length start) ≡ record { length = length (reach_text input); refusal = 0 }) × (listed_out input start ≡ in_room (reach_text input) start)
+  pub accepted : groups (length input) ≤ length start / 20 → (listed input (length start) ≡ Ok (length (reach_text input))) × (listed_out input start ≡ in_room (reach_text input) start)
   unfolding listed listed_out
   accepted h = let t : ltb (length start) (20 * groups (length input)) ≡ false = le-ltb (length start) (20 * groups (length input)) (omega arith) in (rw t, rw t)
 
--- the answered length lies in the room that was lent
-listed_fits : (input : List ℕ) (room : ℕ) → (listed input room).length ≤ room
+-- the text lies in the room that was lent
+pub text_within : (input : List ℕ) (room : ℕ) → groups (length input) ≤ room / 20 → length (reach_text input) ≤ room
+unfolding reach_text
+text_within input room h = omega (arith, text_length input (groups (length input)))
+
+-- the answered length lies in it
+pub listed_within : (input : List ℕ) (room : ℕ) → IfOk (listed input room) (λ n. n ≤ room)
 unfolding listed reach_text
-listed_fits input room = go (ltb room (20 * groups (length input))) refl
+listed_within input room = go (ltb room (20 * groups (length input))) refl
   where
     go : (b : Bool) → ltb room (20 * groups (length input)) ≡ b
-        → (cond {A = Listed} b (record { length = 0; refusal = 2 }) (record { length = length (text_of input (groups (length input))); refusal = 0 })).length ≤ room
-    go true e = omega arith
+        → IfOk (cond {A = Result ℕ Refusal} b (Err BadLength) (Ok (length (text_of input (groups (length input)))))) (λ n. n ≤ room)
+    go true e = tt
     go false e = omega (arith, ltb-false room (20 * groups (length input)) e, text_length input (groups (length input)))
-
-pub listed_within : (input : List ℕ) (room n : ℕ) (r : Listed) → r ≡ listed input room → n ≡ room → r.length ≤ n
-listed_within input room n r e f = rw (e, f) (listed_fits input room)

@@ -1,11 +1,14 @@
 -- The text of the reach list: document 01, "A program, the reach list".
-use Rattle.std.specs.Prelude.{ℕ, zero, suc, ◌+◌, ◌-◌, ◌*◌, ◌/◌, ◌%◌, List, [], ◌∷◌, ◌++◌, cond, ltb, length, get_or, take, drop}
+use Rattle.std.specs.Prelude.{ℕ, zero, suc, ◌+◌, ◌-◌, ◌*◌, ◌/◌, ◌%◌, Result, Ok, Err, List, [], ◌∷◌, ◌++◌, cond, ltb, length, get_or, take, drop}
 use Rattle.facts.specs.Lists.{in_room}
 use Rattle.paging.specs.declared.Sizes.{Sizes}
 use Rattle.paging.specs.declared.Paging.{Paging}
 use Rattle.paging.specs.Memory.{place_of, read_block, write_block}
 use Rattle.paging.specs.Maps.{allowed}
-use Rattle.reach.specs.declared.Listed.{Listed}
+use Rattle.refusal.specs.declared.Refusal.{Refusal}
+use Rattle.refusal.specs.declared.Refusal.TheVariants.{BadLength}
+use Rattle.reach.specs.declared.Line.{Line}
+use Rattle.reach.specs.declared.Line.TheVariants.{Reached, Refused}
 
 -- the last hex digit of a number, in upper case; its last two; its last four
 unfoldable pub hex_digit : ℕ → ℕ
@@ -44,6 +47,11 @@ whole_line g = cond (allowed (sizes_of g)) (reach_line (sizes_of g) (paging_of g
 unfoldable pub group_line : List ℕ → List ℕ
 group_line g = cond (ltb (length g) 9) (refusal_line 2) (whole_line g)
 
+-- the bytes of a line as it is made
+unfoldable pub line_bytes : Line → List ℕ
+line_bytes (Reached bytes) = bytes
+line_bytes (Refused bytes) = bytes
+
 -- the line of the k-th group, the first k lines, and the lines of all groups
 unfoldable pub line_at : List ℕ → ℕ → List ℕ
 line_at input k = group_line (take 9 (drop (9 * k) input))
@@ -59,10 +67,8 @@ unfoldable pub reach_text : List ℕ → List ℕ
 reach_text input = text_of input (groups (length input))
 
 -- what `list` answers and leaves in `out`, which must have 20 bytes for each group
-unfoldable pub listed : List ℕ → ℕ → Listed
-listed input room =
-    cond (ltb room (20 * groups (length input))) (record { length = 0; refusal = 2 })
-    (record { length = length (reach_text input); refusal = 0 })
+unfoldable pub listed : List ℕ → ℕ → Result ℕ Refusal
+listed input room = cond (ltb room (20 * groups (length input))) (Err BadLength) (Ok (length (reach_text input)))
 
 unfoldable pub listed_out : List ℕ → List ℕ → List ℕ
 listed_out input out = cond (ltb (length out) (20 * groups (length input))) out (in_room (reach_text input) out)

@@ -1,27 +1,32 @@
 // The reach list: a line of text for each group of 9 bytes.
 #![tactic(auto)]
 
-ghost use Rattle.std.specs.Prelude.{◌+◌, ◌*◌, ◌≤◌, ◌≡◌, ◌++◌, length, take, drop};
-ghost use Rattle.std.proofs.Math.Seq.{paste};
+ghost use Rattle.std.specs.Prelude.{◌≡◌, IfOk, ◌+◌, ◌*◌, ◌≤◌, ◌++◌, length, take, drop};
 ghost use Rattle.facts.specs.Lists.{in_room};
-ghost use Rattle.reach.specs.Text.{hex_digit, reach_line, whole_line, group_line, refusal_line};
+ghost use Rattle.refusal.specs.Numbers.{number};
+ghost use Rattle.reach.specs.Text.{hex_digit, reach_line, refusal_line, group_line, line_bytes};
 ghost use Rattle.reach.specs.Text.{groups, reach_text, listed, listed_out};
 
 use paging::{Paging, Sizes};
+use refusal::Refusal;
 
-// How many bytes of `out` the text takes, and 0; or 0 bytes and the refusal number.
-#[repr(C)]
+// The line of a group, with its newline.
 #[derive(Clone, Copy)]
-pub struct Listed {
-    pub length: usize,
-    pub refusal: u8,
+enum Line {
+    Reached([u8; 20]),
+    Refused([u8; 4]),
 }
 
-// A line: the first `used` of `bytes`.
-#[derive(Clone, Copy)]
-struct Line {
-    bytes: [u8; 20],
-    used: usize,
+impl Line {
+    #[tactic(auto, unfolding(crate::specs::Text::line_bytes))]
+    fn as_bytes(&self) -> &[u8]
+        ensures { result.now ≡ line_bytes self.now }
+    {
+        match self {
+            Line::Reached(bytes) => bytes,
+            Line::Refused(bytes) => bytes,
+        }
+    }
 }
 
 // The last hex digit of a number, in upper case.
@@ -33,24 +38,17 @@ fn digit(n: u16) -> u8
     if d < 10 { b'0' + d } else { b'A' + (d - 10) }
 }
 
-#[tactic(auto, unfolding(crate::specs::Text::refusal_line))]
-fn refusal_line(number: u8) -> Line
-    requires { number ≤ 9 }
-    ensures bytes_value { take result.used result.bytes ≡ refusal_line number }
-    ensures used_bound { result.used ≤ 20 }
+#[tactic(auto, unfolding(crate::specs::Text::refusal_line, crate::specs::Text::line_bytes))]
+fn refusal_line(refusal: Refusal) -> Line
+    requires { number refusal ≤ 9 }
+    ensures { line_bytes result ≡ refusal_line (number refusal) }
 {
-    let mut bytes = [0u8; 20];
-    bytes[0] = b'X';
-    bytes[1] = b' ';
-    bytes[2] = b'0' + number;
-    bytes[3] = b'\n';
-    Line { bytes, used: 4 }
+    Line::Refused([b'X', b' ', b'0' + u8::from(refusal), b'\n'])
 }
 
-#[tactic(auto, unfolding(paging::specs::Memory::reach_of, crate::specs::Text::reach_line, crate::specs::Text::hex2, crate::specs::Text::hex4))]
+#[tactic(auto, unfolding(paging::specs::Memory::reach_of, crate::specs::Text::reach_line, crate::specs::Text::hex2, crate::specs::Text::hex4, crate::specs::Text::line_bytes))]
 fn reach_line(sizes: Sizes, paging: Paging, address: u16) -> Line
-    ensures bytes_value { take result.used result.bytes ≡ reach_line sizes paging address }
-    ensures used_bound { result.used ≤ 20 }
+    ensures { line_bytes result ≡ reach_line sizes paging address }
 {
     let reach = paging.reach(sizes, address);
     let r = reach.read as u16;
@@ -60,98 +58,61 @@ fn reach_line(sizes: Sizes, paging: Paging, address: u16) -> Line
     let b = digit(p / 256);
     let c = digit(p / 16);
     let d = digit(p);
-    Line {
-        bytes: [
-            b'R',
-            b' ',
-            digit(r / 16),
-            digit(r),
-            b' ',
-            a,
-            b,
-            c,
-            d,
-            b' ',
-            b'W',
-            b' ',
-            digit(w / 16),
-            digit(w),
-            b' ',
-            a,
-            b,
-            c,
-            d,
-            b'\n',
-        ],
-        used: 20,
-    }
+    Line::Reached([
+        b'R',
+        b' ',
+        digit(r / 16),
+        digit(r),
+        b' ',
+        a,
+        b,
+        c,
+        d,
+        b' ',
+        b'W',
+        b' ',
+        digit(w / 16),
+        digit(w),
+        b' ',
+        a,
+        b,
+        c,
+        d,
+        b'\n',
+    ])
 }
 
-fn word(low: u8, high: u8) -> u16
-    ensures { result ≡ low + 256 * high }
+// A group of less than 9 bytes is the last, and short.
+#[tactic(auto, unfolding(refusal::specs::Numbers::number, crate::specs::Text::group_line, crate::specs::Text::whole_line, crate::specs::Text::sizes_of, crate::specs::Text::paging_of, crate::specs::Text::address_of))]
+fn group_line(group: &[u8]) -> Line
+    ensures { line_bytes result ≡ group_line group.now }
 {
-    low as u16 + 256 * (high as u16)
-}
-
-// The line of a whole group.
-#[tactic(auto, unfolding(crate::specs::Text::whole_line, crate::specs::Text::sizes_of, crate::specs::Text::paging_of, crate::specs::Text::address_of))]
-fn whole_line(g: &[u8]) -> Line
-    requires { 9 ≤ length g.now }
-    ensures bytes_value { take result.used result.bytes ≡ whole_line g.now }
-    ensures used_bound { result.used ≤ 20 }
-{
-    let sizes = Sizes {
-        internal: g[0],
-        total: g[1],
+    let Some(&[internal, total, f0, f1, f2, f3, lock, low, high]) = group.first_chunk::<9>() else {
+        return refusal_line(Refusal::BadLength);
     };
+    let sizes = Sizes { internal, total };
     if !sizes.allowed() {
-        return refusal_line(6);
+        return refusal_line(Refusal::BadSizes);
     }
     let paging = Paging {
-        maps: [g[2], g[3], g[4], g[5]],
-        lock: g[6],
+        maps: [f0, f1, f2, f3],
+        lock,
     };
-    reach_line(sizes, paging, word(g[7], g[8]))
+    reach_line(sizes, paging, u16::from_le_bytes([low, high]))
 }
 
-// The line of the group that starts at an index.
-#[tactic(auto, using(crate::proofs::Laws::group_short, crate::proofs::Laws::group_whole))]
-fn group_line(input: &[u8], at: usize) -> Line
-    requires { at ≤ length input.now }
-    ensures bytes_value { take result.used result.bytes ≡ group_line (take 9 (drop at input.now)) }
-    ensures used_bound { result.used ≤ 20 }
+// Puts the line of a group into `out` from `to` on, and gives the index past it.
+#[tactic(auto, using(crate::proofs::Laws::group_line_length))]
+fn put_line(group: &[u8], out: &mut [u8], to: usize) -> usize
+    requires { to + 20 ≤ length out.old }
+    ensures value { result ≡ to + length (group_line group.now) }
+    ensures out_after { out.new ≡ take to out.old ++ group_line group.now ++ drop result out.old }
 {
-    if input.len() - at < 9 {
-        return refusal_line(2);
-    }
-    let end = at + 9;
-    whole_line(&input[at..end])
-}
-
-#[tactic(auto, using(std::proofs::lemmas::List::Edits::paste_more, std::proofs::lemmas::List::Edits::paste_none))]
-fn copy(src: &[u8], out: &mut [u8], to: usize, n: usize)
-    requires n_in_bounds { n ≤ length src.now }
-    requires n_in_bounds_2 { to + n ≤ length out.old }
-    ensures { out.new ≡ paste out.old to src.now n }
-{
-    for i in 0..n {
-        out[to + i] = src[i];
-    }
-}
-
-// Puts the line of the group that starts at `at` into `out` from `to` on, and gives the index past it.
-#[tactic(auto, using(crate::proofs::Laws::used_length, crate::proofs::Laws::pasted))]
-fn put_line(input: &[u8], at: usize, out: &mut [u8], to: usize) -> usize
-    requires at_in_bounds { at ≤ length input.now }
-    requires to_in_bounds { to + 20 ≤ length out.old }
-    ensures value { result ≡ to + length (group_line (take 9 (drop at input.now))) }
-    ensures out_after { out.new ≡ take to out.old ++ group_line (take 9 (drop at input.now)) ++ drop result out.old }
-{
-    let l = group_line(input, at);
-    let bytes = l.bytes;
-    let used = l.used;
-    copy(&bytes, out, to, used);
-    to + used
+    let line = group_line(group);
+    let bytes = line.as_bytes();
+    let end = to + bytes.len();
+    out[to..end].copy_from_slice(bytes);
+    end
 }
 
 // How many groups there are, a short last one among them.
@@ -159,37 +120,34 @@ fn put_line(input: &[u8], at: usize, out: &mut [u8], to: usize) -> usize
 fn count(input: &[u8]) -> usize
     ensures { result ≡ groups (length input.now) }
 {
-    (input.len() + 8) / 9
+    input.len().div_ceil(9)
 }
 
+// By index: over `chunks(9)` it was not proved what each chunk of the iterator holds.
 #[tactic(auto, using(crate::proofs::Laws::room, crate::proofs::Laws::text_length, facts::proofs::Rooms::room_length), unfolding(crate::specs::Text::reach_text, crate::specs::Text::groups))]
 fn fill(input: &[u8], out: &mut [u8]) -> usize
     requires { 20 * groups (length input.now) ≤ length out.old }
     ensures value { result ≡ length (reach_text input.now) }
     ensures out_after { out.new ≡ in_room (reach_text input.now) out.old }
 {
-    let n = count(input);
     let mut to = 0;
-    for k in 0..n {
-        to = put_line(input, 9 * k, out, to);
+    for k in 0..count(input) {
+        let at = 9 * k;
+        let end = input.len().min(at + 9);
+        to = put_line(&input[at..end], out, to);
     }
     to
 }
 
-// Writes the text of `input` to the start of `out`, which must have 20 bytes for each group.
-#[tactic(auto, using(crate::proofs::Laws::refused, crate::proofs::Laws::accepted))]
-pub fn list(input: &[u8], out: &mut [u8]) -> Listed
+// Writes the text of `input` to the start of `out`, which must have 20 bytes for each group, and gives its length.
+#[tactic(auto, using(crate::proofs::Laws::refused, crate::proofs::Laws::accepted, crate::proofs::Laws::text_within))]
+pub fn list(input: &[u8], out: &mut [u8]) -> Result<usize, Refusal>
     ensures value { result ≡ listed input.now (length out.old) }
+    ensures within { IfOk result (λ n. n ≤ length out.new) }
     ensures out_after { out.new ≡ listed_out input.now out.old }
 {
     if out.len() / 20 < count(input) {
-        return Listed {
-            length: 0,
-            refusal: 2,
-        };
+        return Err(Refusal::BadLength);
     }
-    Listed {
-        length: fill(input, out),
-        refusal: 0,
-    }
+    Ok(fill(input, out))
 }

@@ -7,7 +7,8 @@ use reading::read_full;
 use std::io;
 use std::io::Read;
 
-// Lists one chunk, and answers whether another may follow. A chunk that `input` does not fill is the last.
+// Lists one chunk, and answers whether another may follow. A chunk that `input` does not fill is the last. `run` lends the room that
+// each group may take, so no chunk is refused.
 fn list_some(
     rt: &impl Print,
     from: &mut impl Read,
@@ -15,23 +16,23 @@ fn list_some(
     out: &mut [u8],
 ) -> io::Result<bool> {
     let got = read_full(from, input)?;
-    let listed = reach::list(&input[..got], out);
-    let n = listed.length;
-    rt.write_all(&out[..n])?;
+    if let Ok(n) = reach::list(&input[..got], out) {
+        rt.write_all(&out[..n])?;
+    }
     Ok(got == input.len())
 }
 
-// A proved loop has to end, and nothing says that the input does. So the loop counts its turns down,
-// from a number that no run uses up.
+// A proved loop has to end, and nothing says that the input does: no run uses up the turns.
 fn list_all(
     rt: &impl Print,
     from: &mut impl Read,
     input: &mut [u8],
     out: &mut [u8],
 ) -> io::Result<()> {
-    let mut turns = u64::MAX;
-    while turns > 0 && list_some(rt, from, input, out)? {
-        turns -= 1;
+    for _ in 0..u64::MAX {
+        if !list_some(rt, from, input, out)? {
+            return Ok(());
+        }
     }
     Ok(())
 }
