@@ -1,6 +1,7 @@
 pub mod Bits
 pub mod Bools
 pub mod Filled
+pub mod FromFn
 pub mod Overlaid
 pub mod Rooms
 pub mod Searches

@@ -7,8 +7,9 @@ use mathlib.Core.Logic.{◌⊎◌, inl, inr}
 use native.Mathlib.Omega.{arith}
 use borrow.Author.Tests.{ltb-false, eqb-false, lt-ltb, le-ltb, ne_eqb}
 use lib.Dec.{eqb, ltb}
+use mathlib.Core.List.{List}
 use Rattle.facts.proofs.Bools.{or_first, or_second}
-use Rattle.scanline.specs.Pointers.{table_index, entry_of, entry_index, pointer_of, pointer_refusal, word_of, made_pointer}
+use Rattle.scanline.specs.Pointers.{table_index, entry_of, entry_index, pointer_word, pointer_of, pointer_refusal, word_of, made_pointer}
 use Rattle.scanline.specs.declared.Pointer.{Pointer}
 
 -- the table's place is 512 x F5
@@ -24,6 +25,16 @@ entry_index_lt table top line h = omega (arith, table_index_lem table)
 pub entry_index_even : (table top line : ℕ) → entry_index table top line % 2 ≡ 0
 unfolding entry_index
 entry_index_even table top line = omega (arith, table_index_lem table)
+
+-- an entry is line 0's where the top line is the first
+pub entry_0_index : (table entry : ℕ) → entry < 256 → entry_index table 0 entry ≡ table_index table + 2 * entry
+unfolding entry_index entry_of
+entry_0_index table entry h = omega arith
+
+pub word_by_entry : (ram : List ℕ) (table top line : ℕ) → pointer_word ram table 0 (entry_of top line) ≡ pointer_word ram table top line
+unfolding pointer_word entry_index entry_of
+word_by_entry ram table top line =
+    let e : (0 + (top + line) % 256) % 256 ≡ (top + line) % 256 = omega arith in rw e
 
 -- the three tests of a refusal
 abbrev refused : Pointer → Bool

@@ -6,6 +6,7 @@ ghost use Rattle.refusal.specs.Numbers.{answered};
 ghost use Rattle.scanline.specs.Pointers.{table_index, entry_of, entry_index, pointer_word, pointer_of, made_pointer};
 ghost use Rattle.scanline.specs.Drawing.{pixel_index, drawn_byte, video_differs};
 
+use paging::{byte_at, index};
 use refusal::Refusal;
 
 // F5, F6 and F7.
@@ -29,42 +30,45 @@ pub struct Pointer {
 pub fn table_index(table: u8) -> usize
     ensures { result ≡ table_index table }
 {
-    (table / 32) as usize * 16384 + 512 * (table % 32) as usize
+    index(table / 32, 512 * (table % 32) as u16)
 }
 
-// The table entry of a line, from F6.
-#[tactic(auto, unfolding(crate::specs::Pointers::entry_of))]
-pub fn entry(top: u8, line: u8) -> u8
-    ensures { result ≡ entry_of top line }
+// The word of a table's entry; a byte past the RAM's end counts as 0. A RAM of eight blocks or more holds every entry.
+#[tactic(auto, using(crate::proofs::Pointers::table_index_lem, crate::proofs::Pointers::entry_0_index), unfolding(crate::specs::Pointers::pointer_word))]
+pub fn entry_word(ram: &[u8], table: u8, entry: u8) -> u16
+    ensures { result ≡ pointer_word ram.now table 0 entry }
 {
-    ((top as u16 + line as u16) % 256) as u8
-}
-
-// The index of a line's table entry.
-#[tactic(auto, using(crate::proofs::Pointers::table_index_lem), unfolding(crate::specs::Pointers::entry_index))]
-pub fn entry_index(table: u8, top: u8, line: u8) -> usize
-    ensures { result ≡ entry_index table top line }
-{
-    table_index(table) + 2 * entry(top, line) as usize
-}
-
-// Two bytes as a word, low first.
-fn word(low: u8, high: u8) -> u16
-    ensures { result ≡ low + 256 * high }
-{
-    low as u16 + 256 * high as u16
-}
-
-// The pointer word of a line; a byte past the RAM's end counts as 0. A RAM of eight blocks or more holds every entry.
-#[tactic(auto, using(crate::proofs::Pointers::entry_index_lt), unfolding(crate::specs::Pointers::pointer_word))]
-pub fn pointer_word(ram: &[u8], table: u8, top: u8, line: u8) -> u16
-    ensures { result ≡ pointer_word ram.now table top line }
-{
-    let at = entry_index(table, top, line);
+    let at = table_index(table) + 2 * entry as usize;
     if ram.len() < 131072 {
-        return word(paging::byte_at(ram, at), paging::byte_at(ram, at + 1));
+        return u16::from_le_bytes([byte_at(ram, at), byte_at(ram, at + 1)]);
     }
-    word(ram[at], ram[at + 1])
+    u16::from_le_bytes([ram[at], ram[at + 1]])
+}
+
+impl Video {
+    // The table entry of a line.
+    #[tactic(auto, unfolding(crate::specs::Pointers::entry_of))]
+    pub fn entry(self, line: u8) -> u8
+        ensures { result ≡ entry_of self.top line }
+    {
+        self.top.wrapping_add(line)
+    }
+
+    // The index of a line's table entry.
+    #[tactic(auto, using(crate::proofs::Pointers::table_index_lem), unfolding(crate::specs::Pointers::entry_index))]
+    pub fn entry_index(self, line: u8) -> usize
+        ensures { result ≡ entry_index self.table self.top line }
+    {
+        table_index(self.table) + 2 * self.entry(line) as usize
+    }
+
+    // The pointer word of a line.
+    #[tactic(auto, using(crate::proofs::Pointers::word_by_entry))]
+    pub fn pointer_word(self, ram: &[u8], line: u8) -> u16
+        ensures { result ≡ pointer_word ram.now self.table self.top line }
+    {
+        entry_word(ram, self.table, self.entry(line))
+    }
 }
 
 #[tactic(auto, unfolding(crate::specs::Pointers::pointer_of))]
@@ -94,7 +98,7 @@ pub fn pixel_index(p: Pointer, i: u8) -> usize
     ensures { result ≡ pixel_index p i }
 {
     let way = 8 * i as usize;
-    (p.block as usize * 16384 + p.start as usize + way) % 131072
+    (index(p.block, p.start) + way) % 131072
 }
 
 // A RAM byte as F7 has it drawn.
@@ -104,7 +108,7 @@ pub fn drawn_byte(control: u8, byte: u8) -> u8
 {
     let shown = if control / 64 % 2 == 1 { byte } else { 0 };
     if control / 128 % 2 == 1 {
-        255 - shown
+        !shown
     } else {
         shown
     }
@@ -115,5 +119,5 @@ pub fn drawn_byte(control: u8, byte: u8) -> u8
 pub fn video_differs(v: Video, w: Video) -> bool
     ensures { result ≡ video_differs v w }
 {
-    !(v.table == w.table) | (!(v.top == w.top) | !(v.control / 64 == w.control / 64))
+    v.table != w.table || v.top != w.top || v.control / 64 != w.control / 64
 }

@@ -17,7 +17,8 @@ use Rattle.scanline.specs.Pointers.{entry_of, entry_index, pointer_word}
 use Rattle.scanline.proofs.Pointers.{table_index_lem}
 use Rattle.scanline.specs.Drawing.{pixel_touched, touches}
 use Rattle.lineset.proofs.Packed.{packed_add, packed_moved}
-use Rattle.lineset.proofs.Sets.{set_agree}
+use Rattle.lineset.specs.declared.LineSet.{LineSet}
+use Rattle.lineset.proofs.Sets.{set_agree, words_make}
 use Rattle.scanline.proofs.Touches.{touches_pointer, touches_other, touches_past}
 
 -- ---- hits packed
@@ -41,9 +42,9 @@ packed_four p from =
 
 pub hits_four :
     (hits : List ℕ) (i : ℕ) →
-    i + 4 ≤ length hits →
+    i + 4 ≤ 64 →
     (p : ℕ → Bool) →
-    ((j : ℕ) → j < length hits → get_or hits j 0 ≡ bool_byte (p j)) →
+    ((j : ℕ) → j < 64 → get_or hits j 0 ≡ bool_byte (p j)) →
     (get_or hits i 0 + 256 * get_or hits (i + 1) 0 + 65536 * get_or hits (i + 2) 0 + 16777216 * get_or hits (i + 3) 0) * 2113665 / 2097152 % 16 ≡ packed p i 4
 hits_four hits i l p f =
     rw (f i (omega arith), f (i + 1) (omega arith), f (i + 2) (omega arith), f (i + 3) (omega arith))
@@ -70,17 +71,7 @@ fours_fit i m four lo hi h f =
     let e : 16 * m + four < 2 ^ (64 - 4 * (i - 1)) = rw (n, pow-add) (omega arith) in
     (e, omega (arith, pow_mono {i = 64 - 4 * (i - 1)} {j = 64} (omega arith)))
 
--- the loop's end
-pub fours_end : (p : ℕ → Bool) (i m : ℕ) → i ≤ 0 → m ≡ packed p (4 * i) (64 - 4 * i) → m ≡ packed p 0 64
-fours_end p i m z h =
-    let a : 4 * i ≡ 0 = omega arith in
-    h ∙ rw a
-
 -- ---- the entries of the table, in quarters of 64
-
--- the hit of entry k of a quarter: whether an index is among its pixel bytes
-unfoldable pub hit_of : List ℕ → ℕ → ℕ → ℕ → ℕ → ℕ
-hit_of ram table quarter at k = bool_byte (pixel_touched (pointer_word ram table 0 (64 * quarter + k)) at)
 
 entry_half : (table j : ℕ) → entry_index table 0 j / 2 ≡ 256 * table + j % 256
 unfolding entry_index entry_of
@@ -170,3 +161,20 @@ module _ (ram : List ℕ) (table at : ℕ) where
       f (touches ram table 0 at) (64 * (top / 64 + n)) l (h ∙ ap (λ (k : ℕ). packed (touches ram table 0 at) k 64) e)
       ∙ ap (λ (k : ℕ). packed (touches ram table 0 at) k 64) g
       ∙ packed_moved (touches ram table 0 at) (touches ram table top at) top (64 * n) 64 (touches_top top)
+
+  -- the four words of a set, each from two quarters
+  pub set_of_words :
+      (top : ℕ) (quarters words : List ℕ) →
+      length words ≡ 4 →
+      ((j : ℕ) → j < 4 → get_or quarters j 0 ≡ packed (touches ram table 0 at) (64 * ((top / 64 + j) % 4)) 64) →
+      ((j : ℕ) → j < 4 → (p : ℕ → Bool) (from : ℕ) → get_or quarters j 0 ≡ packed p from 64 → get_or quarters ((j + 1) % 4) 0 ≡ packed p (from + 64) 64
+      → get_or words j 0 ≡ packed p (from + top % 64) 64) →
+      ◌≡◌ {A = LineSet} (record { words = words }) (set_of (touches ram table top at))
+  set_of_words top quarters words four quarter word = words_make (touches ram table top at) (record { words = words }) four each
+    where
+      each : (j : ℕ) → j < 4 → get_or words j 0 ≡ packed (touches ram table top at) (64 * j) 64
+      each j l =
+          lines_word top j (get_or quarters j 0) (get_or quarters ((j + 1) % 4) 0) (get_or words j 0)
+          (quarter_round ((top / 64 + j) % 4) (top / 64 + j) _ refl (quarter j l))
+          (quarter_round ((top / 64 + (j + 1) % 4) % 4) (top / 64 + suc j) _ (omega arith) (quarter ((j + 1) % 4) (omega arith)))
+          (word j l)

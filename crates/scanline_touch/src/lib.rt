@@ -8,83 +8,78 @@ ghost use Rattle.scanline.specs.Pointers.{pointer_word};
 ghost use Rattle.scanline.specs.Drawing.{touches, pixel_touched};
 
 use lineset::LineSet;
-use scanline::pointer_word;
+use scanline::{Video, entry_word};
+use std::array;
 
-// Whether an index is one of the 90 pixel bytes that a pointer word names: it has the same place in its eight bytes as the
-// line's start, and the way from there, in eights and round the 131,072 bytes of standard RAM, is below 90. A word leaves
-// out bit 3 of the start, so its eight is twice the word's. No branch, and 16 bits, since it is asked of every line.
-#[tactic(auto, using(scanline::proofs::Pixels::word_touched))]
-fn pixel_hit(word: u16, at: usize) -> bool
-    requires { at < 131072 }
-    ensures { result ≡ pixel_touched word at }
-{
-    let start = 2 * (word / 8);
-    let eight = (at / 8) as u16;
-    let way = (eight + 16384 - start) % 16384;
-    (word % 8 == (at % 8) as u16) & (way < 90)
+// A quarter of the table's 256 entries, and an index of standard RAM that may be among their bytes.
+#[derive(Clone, Copy)]
+struct Quarter<'a> {
+    ram: &'a [u8],
+    table: u8,
+    number: usize,
+    at: usize,
+    ghost of_four: { number < 4 },
+    ghost in_standard_ram: { at < 131072 },
 }
 
-// A hit, 1 or 0, for each of a quarter of the table's 256 entries that has an index among its pixel bytes.
-fn hit_pixels(ram: &[u8], table: u8, quarter: usize, at: usize, hits: &mut [u8])
-    requires { (at < 131072) × (quarter < 4) × (length hits.old ≡ 64) }
-    ensures { (j : ℕ) → j < 64 → get_or hits.new j 0 ≡ bool_byte (pixel_touched (pointer_word ram.now table 0 (64 * quarter + j)) at) }
-{
-    for e in 0..64 {
-        let word = pointer_word(ram, table, 0, (64 * quarter + e) as u8);
-        hits[e] = pixel_hit(word, at) as u8;
+impl<'a> Quarter<'a> {
+    // Whether the index is one of the 90 pixel bytes that an entry's word names: it has the same place in its eight bytes as
+    // the line's start, and the way from there, in eights and round the 131,072 bytes of standard RAM, is below 90. A word
+    // leaves out bit 3 of the start, so its eight is twice the word's. No branch, and 16 bits, since it is asked of every line.
+    #[tactic(auto, using(scanline::proofs::Pixels::word_touched))]
+    fn is_pixel_of(&self, entry: usize) -> bool
+        requires { entry < 64 }
+        ensures { result ≡ pixel_touched (pointer_word self.now.ram.now self.now.table 0 (64 * self.now.number + entry)) self.now.at }
+    {
+        let word = entry_word(self.ram, self.table, (64 * self.number + entry) as u8);
+        let start = 2 * (word / 8);
+        let eight = (self.at / 8) as u16;
+        let way = (eight + 16384 - start) % 16384;
+        (word % 8 == (self.at % 8) as u16) & (way < 90)
     }
-}
 
-// A hit for each of them that has an index among its pixel bytes or its two pointer bytes.
-#[tactic(auto, using(crate::proofs::Hits::within, crate::proofs::Hits::outside))]
-fn hit_entries(ram: &[u8], table: u8, quarter: usize, at: usize, hits: &mut [u8])
-    requires { (at < 131072) × (quarter < 4) × (length hits.old ≡ 64) }
-    ensures { (j : ℕ) → j < 64 → get_or hits.new j 0 ≡ bool_byte (touches ram.now table 0 at (64 * quarter + j)) }
-{
-    hit_pixels(ram, table, quarter, at, hits);
-    if at / 128 == 4 * table as usize + quarter {
-        hits[at % 128 / 2] = 1;
+    // For each entry a hit, 1 or 0: whether the index is among its pixel bytes or its two pointer bytes.
+    #[tactic(auto, using(crate::proofs::Hits::within, crate::proofs::Hits::outside))]
+    fn hits(&self) -> [u8; 64]
+        ensures { (j : ℕ) → j < 64 → get_or result j 0 ≡ bool_byte (touches self.now.ram.now self.now.table 0 self.now.at (64 * self.now.number + j)) }
+    {
+        let mut hits = array::from_fn(|entry| self.is_pixel_of(entry) as u8);
+        if self.at / 128 == 4 * self.table as usize + self.number {
+            hits[self.at % 128 / 2] = 1;
+        }
+        hits
+    }
+
+    // The entries as a word: those that another byte at the index alters.
+    #[tactic(auto, using(crate::proofs::Hits::quarter_word))]
+    fn word(&self) -> u64
+        ensures { result ≡ packed (touches self.now.ram.now self.now.table 0 self.now.at) (64 * self.now.number) 64 }
+    {
+        hit_word(&self.hits())
     }
 }
 
 // Four hits as a number, the first in the lowest digit. Their bytes make one number; moved up by 21, 14, 7 and 0 digits and added up,
 // in one product, the four stand side by side as its digits 21 to 24, and no two fall on one digit.
 #[tactic(auto, using(crate::proofs::Hits::hits_four))]
-fn four_hits(hits: &[u8], i: usize) -> u64
-    requires { i + 4 ≤ length hits.now }
+fn four_hits(hits: &[u8; 64], i: usize) -> u64
+    requires { i + 4 ≤ 64 }
     ensures upper_bound { result < 16 }
-    ensures by_index { (p : ℕ → Bool) → ((j : ℕ) → j < length hits.now → get_or hits.now j 0 ≡ bool_byte (p j)) → result ≡ packed p i 4 }
+    ensures by_index { (p : ℕ → Bool) → ((j : ℕ) → j < 64 → get_or hits.now j 0 ≡ bool_byte (p j)) → result ≡ packed p i 4 }
 {
-    let bytes = hits[i] as u64
-        + 256 * hits[i + 1] as u64
-        + 65536 * hits[i + 2] as u64
-        + 16777216 * hits[i + 3] as u64;
-    bytes * 2113665 / 2097152 % 16
+    let bytes = u32::from_le_bytes([hits[i], hits[i + 1], hits[i + 2], hits[i + 3]]);
+    bytes as u64 * 2113665 / 2097152 % 16
 }
 
 // 64 hits as a word, made from its top digits down.
-fn hit_word(hits: &[u8]) -> u64
-    requires { length hits.now ≡ 64 }
-    ensures { (p : ℕ → Bool) → ((j : ℕ) → j < length hits.now → get_or hits.now j 0 ≡ bool_byte (p j)) → result ≡ packed p 0 64 }
+fn hit_word(hits: &[u8; 64]) -> u64
+    ensures { (p : ℕ → Bool) → ((j : ℕ) → j < 64 → get_or hits.now j 0 ≡ bool_byte (p j)) → result ≡ packed p 0 64 }
 {
     let mut m: u64 = 0;
-    let mut i: usize = 16;
-    while i > 0 {
-        i -= 1;
+    for i in (0..16).rev() {
         m = 16 * m + four_hits(hits, 4 * i);
     }
     m
-}
-
-// A quarter of the table's entries as a word: those that another byte at an index alters.
-#[tactic(auto, using(crate::proofs::Hits::quarter_word))]
-fn entries_word(ram: &[u8], table: u8, quarter: usize, at: usize) -> u64
-    requires { (at < 131072) × (quarter < 4) }
-    ensures { result ≡ packed (touches ram.now table 0 at) (64 * quarter) 64 }
-{
-    let mut hits = [0u8; 64];
-    hit_entries(ram, table, quarter, at, &mut hits);
-    hit_word(&hits)
 }
 
 // Of two words, one behind the other, the 64 digits from a digit of the first on.
@@ -96,27 +91,31 @@ fn from_digit(low: u64, high: u64, digit: u64) -> u64
     low >> digit | high << 1 << (63 - digit)
 }
 
-// The lines for which another byte at an index of the RAM changes the pointer word or a pixel byte. Line 0 has the entry `top`,
-// and after entry 255 comes entry 0.
+// The lines for which another byte at an index of the RAM changes the pointer word or a pixel byte. Line 0 has the entry that F6
+// names, and after entry 255 comes entry 0.
 #[tactic(auto, using(crate::proofs::Hits::none_past))]
-pub fn touched(ram: &[u8], table: u8, top: u8, at: usize) -> LineSet
-    ensures { result ≡ set_of (touches ram.now table top at) }
+pub fn touched(ram: &[u8], video: Video, at: usize) -> LineSet
+    ensures { result ≡ set_of (touches ram.now video.table video.top at) }
 {
     if at >= 131072 {
         return LineSet::empty();
     }
-    let quarter = top as usize / 64;
-    let digit = top as u64 % 64;
-    let a = entries_word(ram, table, quarter, at);
-    let b = entries_word(ram, table, (quarter + 1) % 4, at);
-    let c = entries_word(ram, table, (quarter + 2) % 4, at);
-    let d = entries_word(ram, table, (quarter + 3) % 4, at);
+    let first = video.top as usize / 64;
+    let digit = video.top as u64 % 64;
+    let quarters: [u64; 4] = array::from_fn(
+        |i|
+            requires { (at < 131072) × (first + i < 8) }
+        {
+            let quarter = Quarter {
+                ram,
+                table: video.table,
+                number: (first + i) % 4,
+                at,
+            };
+            quarter.word()
+        },
+    );
     LineSet {
-        words: [
-            from_digit(a, b, digit),
-            from_digit(b, c, digit),
-            from_digit(c, d, digit),
-            from_digit(d, a, digit),
-        ],
+        words: array::from_fn(|i| from_digit(quarters[i], quarters[(i + 1) % 4], digit)),
     }
 }

@@ -1,19 +1,22 @@
--- `touched`: the four quarters of the entries from the top line's on.
-use Rattle.std.proofs.Common.{arith, ◌+◌, ◌/◌, refl}
-use Rattle.lineset.proofs.Operations.{four_words}
-use Rattle.scanline_touch.proofs.Hits.{quarter_round, lines_word}
+-- `touched`: the four quarters of the entries from the top line's on, and each word of the set cut out of two of them.
+use Rattle.std.proofs.Common.{rules, ◌≡◌, ℕ, Bool, ◌+◌, ◌*◌, ◌/◌, ◌%◌, ◌<◌, get_or}
+use Rattle.facts.proofs.FromFn.{made_each}
+use Rattle.lineset.specs.Lines.{packed}
+use Rattle.scanline.specs.Drawing.{touches}
+use Rattle.scanline_touch.proofs.Hits.{set_of_words}
 use Rattle.scanline_touch.proofs.touched.Goals as goal
 
 pub returns : goal.returns
 returns c =
-    let top = c.args.top in
-    let a = quarter_round _ _ _ (top / 64) (top / 64 + 0) _ (omega arith) c.entries_word-a.ensures in
-    let again = quarter_round _ _ _ (top / 64) (top / 64 + 4) _ (omega arith) c.entries_word-a.ensures in
-    let b = quarter_round _ _ _ _ (top / 64 + 1) _ refl c.entries_word-b.ensures in
-    let d = quarter_round _ _ _ _ (top / 64 + 2) _ refl c.entries_word-c.ensures in
-    let e = quarter_round _ _ _ _ (top / 64 + 3) _ refl c.entries_word-d.ensures in
-    four_words _ _ _ _ _
-    (lines_word _ _ _ top 0 _ _ _ a b c.from_digit.ensures)
-    (lines_word _ _ _ top 1 _ _ _ b d c.from_digit-2.ensures)
-    (lines_word _ _ _ top 2 _ _ _ d e c.from_digit-3.ensures)
-    (lines_word _ _ _ top 3 _ _ _ e again c.from_digit-4.ensures)
+    let v = c.args.video in
+    let q = c.from_fn-quarters.result in
+    let quarter : (j : ℕ) → j < 4 → get_or q j 0 ≡ packed (touches c.args.ram.now v.table 0 c.args.at) (64 * ((v.top / 64 + j) % 4)) 64 =
+    made_each _ (λ (j y : ℕ). y ≡ packed (touches c.args.ram.now v.table 0 c.args.at) (64 * ((v.top / 64 + j) % 4)) 64) _
+    (λ i y q k. (search rules, search rules)) c.from_fn-quarters.ensures.items in
+    let word : (j : ℕ) → j < 4 → (p : ℕ → Bool) (from : ℕ) → get_or q j 0 ≡ packed p from 64 → get_or q ((j + 1) % 4) 0 ≡ packed p (from + 64) 64
+    → get_or c.from_fn.result j 0 ≡ packed p (from + v.top % 64) 64 =
+    made_each _
+    (λ (j y : ℕ). (p : ℕ → Bool) (from : ℕ) → get_or q j 0 ≡ packed p from 64 → get_or q ((j + 1) % 4) 0 ≡ packed p (from + 64) 64 → y ≡ packed p (from + v.top % 64) 64)
+    _
+    (λ i y q k. (search rules, search rules)) c.from_fn.ensures.items in
+    set_of_words c.args.ram.now v.table c.args.at v.top q c.from_fn.result (search rules) quarter word
