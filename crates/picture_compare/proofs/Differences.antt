@@ -1,56 +1,25 @@
 -- Laws of the first difference: the pixels of two bytes, the first of some pixels, and the first place where two pictures differ.
 -- Assumes nothing.
-use Prim.Native.Nat.{ℕ, zero, suc, ◌+◌, ◌-◌, ◌*◌, ◌/◌, ◌%◌, ◌^◌, ◌≤◌, ◌<◌}
+use Prim.Native.Nat.{ℕ, zero, suc, ◌+◌, ◌-◌, ◌*◌, ◌/◌, ◌%◌, ◌<◌}
 use native.Mathlib.Nat.{add-suc, suc-add, add-zero, zero-add, le_of_suc-le-suc, not-suc-le-zero}
-use native.Mathlib.Numerals.{add-one}
 use native.Mathlib.Omega.{arith}
 use mathlib.Core.Path.{◌≡◌, refl, sym, ◌∙◌, ap}
-use mathlib.Core.Bool.{Bool, true, false, not}
+use mathlib.Core.Bool.{Bool, true, false, not, ◌&&◌, and-false}
+use Rattle.scanline.specs.Drawing.{picture_fits}
 use mathlib.Core.List.{List}
-use borrow.Author.Tests.{eqb-true, eqb-false, ltb-true, ltb-false, eq-eqb, ne_eqb}
+use borrow.Author.Tests.{ltb-true, ltb-false, eq-eqb, ne_eqb}
 use lib.Dec.{eqb, ltb}
-use borrow.Author.Count.{below_more}
-use lib.Bits.{bit_or, bit_xor, xor_add_and, and_le_l, and_le_r}
-use lib.ListN.{get_or}
-use lib.Pow.{shr-shr}
-use Rattle.facts.proofs.Bits.{or_zero}
+use lib.ListN.{get_or, drop, length, length-take}
+use lib.Seq.{get_or-take, get_or-drop}
+use Rattle.std.specs.List.{between}
 use Rattle.panel.specs.Widen.{pixel_of, pixel_in}
-use Rattle.picture_compare.specs.declared.Position.TheVariants.{Pixel, Same}
-use Rattle.picture_compare.specs.Differences.{AlikeFrom, first_pixel, first_difference}
-
--- ---- the pixels of two bytes, from the left: k equal ones are equal numbers above the other 8 - k
-
-half : (x j : ℕ) → x / 2 ^ suc j ≡ x / 2 ^ j / 2
-half x j = ap (λ (m : ℕ). x / 2 ^ m) (sym (add-one j)) ∙ sym (shr-shr x j 1)
-
-next_digit : (x y j : ℕ) → x / 2 ^ suc j ≡ y / 2 ^ suc j → x / 2 ^ j % 2 ≡ y / 2 ^ j % 2 → x / 2 ^ j ≡ y / 2 ^ j
-next_digit x y j h d = let e : x / 2 ^ j / 2 ≡ y / 2 ^ j / 2 = sym (half x j) ∙ h ∙ half y j in omega arith
-
-pub pixels_start : (x y : ℕ) → x < 256 → y < 256 → x / 2 ^ (8 - 0) ≡ y / 2 ^ (8 - 0)
-pixels_start x y h l = omega arith
-
-pub pixels_next : (x y k : ℕ) → k ≤ 7 → x / 2 ^ (8 - k) ≡ y / 2 ^ (8 - k) → pixel_of x k ≡ pixel_of y k → x / 2 ^ (8 - (k + 1)) ≡ y / 2 ^ (8 - (k + 1))
-unfolding pixel_of
-pixels_next x y k h e d =
-    let s : 8 - k ≡ suc (7 - k) = omega arith in
-    let t : 8 - (k + 1) ≡ 7 - k = omega arith in
-    rw t (next_digit x y (7 - k) (rw s at e) d)
-
-pub pixels_before : (x y k j : ℕ) → k ≤ 8 → x / 2 ^ (8 - k) ≡ y / 2 ^ (8 - k) → j < k → pixel_of x j ≡ pixel_of y j
-unfolding pixel_of
-pixels_before x y k j h e l =
-    let s : 7 - j ≡ 8 - k + (k - suc j) = omega arith in
-    rw (s, ← shr-shr x (8 - k) (k - suc j), ← shr-shr y (8 - k) (k - suc j), e)
-
--- the last pixel of two unequal bytes, the others equal
-pub last_pixel : (x y : ℕ) → (x ≡ y → ⊥) → x / 2 ^ (8 - 7) ≡ y / 2 ^ (8 - 7) → pixel_of x 7 ≡ pixel_of y 7 → ⊥
-unfolding pixel_of
-last_pixel x y ne e d = ne (omega arith)
+use Rattle.std.specs.Prelude.{None, Some}
+use Rattle.picture_compare.specs.Differences.{FirstUnlike, first_pixel, first_difference, difference_answer}
 
 -- ---- the first of some pixels
 
 pub first_found : (p : ℕ → Bool) (from n k : ℕ) → k < n → ((i : ℕ) → i < k → p (from + i) ≡ false) → p (from + k) ≡ true
-    → first_pixel p from n ≡ Pixel ((from + k) / 720) ((from + k) % 720)
+    → first_pixel p from n ≡ Some (record { line = (from + k) / 720; pixel = (from + k) % 720 })
 unfolding first_pixel
 first_found p from zero k l h e = absurd (not-suc-le-zero l)
 first_found p from (suc n) zero l h e = rw (rw add-zero at e, add-zero)
@@ -58,24 +27,12 @@ first_found p from (suc n) (suc k) l h e =
     let z : p from ≡ false = rw add-zero at (h zero (omega arith)) in
     rw (z, add-suc, ← suc-add) (first_found p (suc from) n k (le_of_suc-le-suc l) (λ i m. rw (suc-add, ← add-suc) (h (suc i) (omega arith))) (rw (suc-add, ← add-suc) e))
 
-pub first_same : (p : ℕ → Bool) (from n : ℕ) → ((i : ℕ) → i < n → p (from + i) ≡ false) → first_pixel p from n ≡ Same
+pub first_same : (p : ℕ → Bool) (from n : ℕ) → ((i : ℕ) → i < n → p (from + i) ≡ false) → first_pixel p from n ≡ None
 unfolding first_pixel
 first_same p from zero h = refl
 first_same p from (suc n) h =
     let z : p from ≡ false = rw add-zero at (h zero (omega arith)) in
     rw z (first_same p (suc from) n (λ i m. rw (suc-add, ← add-suc) (h (suc i) (omega arith))))
-
--- ---- many bytes at once
-
-xor_zero : (a b : ℕ) → bit_xor a b ≡ 0 → a ≡ b
-xor_zero a b e = omega (arith, xor_add_and a b, and_le_l a b, and_le_r a b)
-
--- one byte more, of which no bit differs
-pub from_next : (a b : List ℕ) (first i found : ℕ) → (found ≡ 0 → AlikeFrom a b first i)
-    → bit_or found (bit_xor (get_or a (first + i) 0) (get_or b (first + i) 0)) ≡ 0 → AlikeFrom a b first (i + 1)
-from_next a b first i found h e =
-    let z = or_zero found (bit_xor (get_or a (first + i) 0) (get_or b (first + i) 0)) e in
-    below_more (λ m. get_or a (first + m) 0 ≡ get_or b (first + m) 0) i (h z.0) (xor_zero (get_or a (first + i) 0) (get_or b (first + i) 0) z.1)
 
 -- ---- two pictures
 
@@ -86,6 +43,13 @@ differs a b j = not (eqb (pixel_in a j) (pixel_in b j))
 -- the first n bytes are equal
 pub Alike : List ℕ → List ℕ → ℕ → Type 0
 Alike a b n = (m : ℕ) → m < n → get_or a m 0 ≡ get_or b m 0
+
+-- 720 bytes of a picture from byte n on
+part_at : (xs : List ℕ) (n k : ℕ) → k < 720 → get_or (between n (n + 720) xs) k 0 ≡ get_or xs (n + k) 0
+part_at xs n k l = get_or-take (n + 720 - n) (drop n xs) k 0 (omega arith) ∙ get_or-drop n xs k 0
+
+part_within : (xs : List ℕ) (n i : ℕ) → i < length (between n (n + 720) xs) → i < 720
+part_within xs n i l = omega (arith, length-take (n + 720 - n) (drop n xs))
 
 module _ (a b : List ℕ) where
   -- pixel k of byte m
@@ -111,55 +75,64 @@ module _ (a b : List ℕ) where
   unfolding Alike
   alike_none m l = absurd (not-suc-le-zero l)
 
-  alike_more : (n : ℕ) → Alike a b n → get_or a n 0 ≡ get_or b n 0 → Alike a b (n + 1)
+  -- i bytes more
+  pub alike_on : (n i : ℕ) → Alike a b n → ((k : ℕ) → k < i → get_or a (n + k) 0 ≡ get_or b (n + k) 0) → Alike a b (n + i)
   unfolding Alike
-  alike_more n h e m l = go (eqb m n) refl
+  alike_on n i h l m s = go (ltb m n) refl
     where
-      go : (t : Bool) → eqb m n ≡ t → get_or a m 0 ≡ get_or b m 0
-      go true q = let z : m ≡ n = eqb-true m n q in rw z e
-      go false q = let z : (m ≡ n → ⊥) = eqb-false m n q in h m (omega arith)
-
-  -- the next byte of a line, the next line, and the next eight
-  pub alike_next : (L i : ℕ) → Alike a b (L * 90 + i) → get_or a (L * 90 + i) 0 ≡ get_or b (L * 90 + i) 0 → Alike a b (L * 90 + (i + 1))
-  alike_next L i h e = let z : L * 90 + (i + 1) ≡ L * 90 + i + 1 = omega arith in rw z (alike_more (L * 90 + i) h e)
-
-  pub alike_line : (L i : ℕ) → i ≡ 90 → Alike a b (L * 90 + i) → Alike a b ((L + 1) * 90)
-  alike_line L i e h = let z : (L + 1) * 90 ≡ L * 90 + i = omega arith in rw z h
-
-  pub alike_eight : (L : ℕ) → Alike a b (L * 90) → AlikeFrom a b (L * 90) 720 → Alike a b ((L + 8) * 90)
-  unfolding Alike
-  alike_eight L h l m s = go (ltb m (L * 90)) refl
-    where
-      go : (t : Bool) → ltb m (L * 90) ≡ t → get_or a m 0 ≡ get_or b m 0
-      go true q = h m (ltb-true m (L * 90) q)
+      go : (t : Bool) → ltb m n ≡ t → get_or a m 0 ≡ get_or b m 0
+      go true q = h m (ltb-true m n q)
       go false q =
-          let ge = ltb-false m (L * 90) q in
-          let e : m ≡ L * 90 + (m - L * 90) = omega arith in
-          rw e (l (m - L * 90) (omega arith))
+          let ge = ltb-false m n q in
+          let e : m ≡ n + (m - n) = omega arith in
+          rw e (l (m - n) (omega arith))
 
-  pub position_same : Alike a b 23040 → Same ≡ first_difference a b
+  pub position_same : Alike a b 23040 → None ≡ first_difference a b
   unfolding first_difference differs
   position_same h = sym (first_same (differs a b) 0 184320 (λ i l. rw zero-add (pixels_same 23040 i h (omega arith))))
 
-  -- byte i of a line is the first that differs, and k its first pixel that does
-  module _ (L i k : ℕ) (h_l : L < 256) (hi : i < 90) (hk : k < 8) (h : Alike a b (L * 90 + i))
-      (left : (j : ℕ) → j < k → pixel_of (get_or a (L * 90 + i) 0) j ≡ pixel_of (get_or b (L * 90 + i) 0) j)
-      (here : pixel_of (get_or a (L * 90 + i) 0) k ≡ pixel_of (get_or b (L * 90 + i) 0) k → ⊥) where
-    before : (j : ℕ) → j < 8 * (L * 90 + i) + k → differs a b j ≡ false
-    before j l = go (ltb (j / 8) (L * 90 + i)) refl
+  -- byte n is the first that differs, and k its first pixel that does
+  module _ (n k : ℕ) (hn : n < 23040) (hk : k < 8) (h : Alike a b n)
+      (left : (j : ℕ) → j < k → pixel_of (get_or a n 0) j ≡ pixel_of (get_or b n 0) j)
+      (here : pixel_of (get_or a n 0) k ≡ pixel_of (get_or b n 0) k → ⊥) where
+    before : (j : ℕ) → j < 8 * n + k → differs a b j ≡ false
+    before j l = go (ltb (j / 8) n) refl
       where
-        go : (t : Bool) → ltb (j / 8) (L * 90 + i) ≡ t → differs a b j ≡ false
-        go true q = pixels_same (L * 90 + i) j h (ltb-true (j / 8) (L * 90 + i) q)
+        go : (t : Bool) → ltb (j / 8) n ≡ t → differs a b j ≡ false
+        go true q = pixels_same n j h (ltb-true (j / 8) n q)
         go false q =
-            let ge = ltb-false (j / 8) (L * 90 + i) q in
-            let e : j ≡ 8 * (L * 90 + i) + (j - 8 * (L * 90 + i)) = omega arith in
-            rw e (pixel_same (L * 90 + i) (j - 8 * (L * 90 + i)) (omega arith) (left (j - 8 * (L * 90 + i)) (omega arith)))
+            let ge = ltb-false (j / 8) n q in
+            let e : j ≡ 8 * n + (j - 8 * n) = omega arith in
+            rw e (pixel_same n (j - 8 * n) (omega arith) (left (j - 8 * n) (omega arith)))
 
-    pub position_found : Pixel L (8 * i + k) ≡ first_difference a b
+    pub position_found : Some (record { line = n / 90; pixel = 8 * (n % 90) + k }) ≡ first_difference a b
     unfolding first_difference differs
     position_found =
-        let d : (8 * (L * 90 + i) + k) / 720 ≡ L = omega arith in
-        let r : (8 * (L * 90 + i) + k) % 720 ≡ 8 * i + k = omega arith in
+        let d : (8 * n + k) / 720 ≡ n / 90 = omega arith in
+        let r : (8 * n + k) % 720 ≡ 8 * (n % 90) + k = omega arith in
         sym
-        (first_found (differs a b) 0 184320 (8 * (L * 90 + i) + k) (omega arith) (λ j l. rw zero-add (before j l)) (rw zero-add (pixel_other (L * 90 + i) k hk here))
+        (first_found (differs a b) 0 184320 (8 * n + k) (omega arith) (λ j l. rw zero-add (before j l)) (rw zero-add (pixel_other n k hk here))
         ∙ rw (zero-add, d, r))
+
+  -- the eight lines from a byte on: all the same, or byte i of them the first that differs, and k its first pixel that does
+  module _ (eight : ℕ) (h : Alike a b (720 * eight)) where
+    pub eight_same : between (720 * eight) (720 * eight + 720) a ≡ between (720 * eight) (720 * eight + 720) b → Alike a b (720 * (eight + 1))
+    eight_same q =
+        let z : 720 * (eight + 1) ≡ 720 * eight + 720 = omega arith in
+        rw z
+        (alike_on (720 * eight) 720 h
+        (λ k m. sym (part_at a (720 * eight) k m) ∙ ap (λ (xs : List ℕ). get_or xs k 0) q ∙ part_at b (720 * eight) k m))
+
+    pub eight_found : (i k : ℕ) → eight < 32 → FirstUnlike (between (720 * eight) (720 * eight + 720) a) (between (720 * eight) (720 * eight + 720) b) i
+        → (k < 8) × (((j : ℕ) → j < k → pixel_of (get_or a (720 * eight + i) 0) j ≡ pixel_of (get_or b (720 * eight + i) 0) j) × (pixel_of (get_or a (720 * eight + i) 0) k ≡ pixel_of (get_or b (720 * eight + i) 0) k → ⊥))
+        → Some (record { line = (720 * eight + i) / 90; pixel = 8 * ((720 * eight + i) % 90) + k }) ≡ first_difference a b
+    eight_found i k l f p =
+        let w : i < 720 = part_within a (720 * eight) i f.0 in
+        position_found (720 * eight + i) k (omega arith) p.0
+        (alike_on (720 * eight) i h (λ j m. sym (part_at a (720 * eight) j (omega arith)) ∙ f.1.0 j m ∙ part_at b (720 * eight) j (omega arith)))
+        p.1.0 p.1.1
+
+  -- the second picture has a wrong length
+  pub second_unfit : (length b ≡ 23040 → ⊥) → (picture_fits (length a) && picture_fits (length b)) ≡ false
+  unfolding picture_fits
+  second_unfit h = rw (ne_eqb (length b) 23040 h, and-false)
