@@ -1,61 +1,68 @@
 -- The parts of an archive, put down in lent room.
 -- Assumes nothing.
-use Prim.Native.Nat.{ℕ, suc, ◌+◌, ◌-◌, ◌*◌, ◌/◌, ◌≤◌, ◌<◌}
+use Prim.Native.Nat.{ℕ, zero, suc, ◌+◌, ◌-◌, ◌*◌, ◌/◌, ◌≤◌, ◌<◌}
+use native.Mathlib.Nat.{add-zero}
 use native.Mathlib.Numerals.{add-one}
 use native.Mathlib.Omega.{arith}
 use mathlib.Core.Path.{◌≡◌, refl, sym, ap, ◌∙◌}
 use mathlib.Core.Bool.{true}
 use mathlib.Core.List.{List, [], ◌∷◌, ◌++◌, append_assoc, append-nil}
-use lib.ListN.{length, take, drop, length-append, length-drop, take-append-drop, get_or-append}
-use lib.Seq.{length-take-le, get_or_at, take_all}
+use lib.ListN.{length, get_or, take, drop, replicate, length-append, length-drop, take-append-drop, get_or-append}
+use lib.Seq.{length-take-le, get_or_at, take_all, drop-drop}
 use Rattle.facts.specs.Lists.{in_room}
-use Rattle.facts.proofs.Rooms.{room_length}
-use Rattle.byte_rows.specs.Rows.{put, copied, zeros, rows}
-use Rattle.byte_rows.proofs.Rows.{rest_all, rows_length, put_put, put_start, put_length, room_put_at, copied_fits, rows_same, rows_take}
+use Rattle.byte_rows.specs.Rows.{put, zeros, rows}
+use Rattle.byte_rows.proofs.Rows.{rest_all, rows_length, put_put, put_length, room_put_at, rows_same, rows_take, zeros_length}
 use Rattle.archive.specs.Format.{Frame, no_frame, frame_in, archive_of, written, shown_of, entry_row, picture_row, entry, header, picture_offset}
 use Rattle.archive.specs.Sound.{sound, frames_of, frame_at, count_of, entry_of, bench_at, number_at, shown_at}
 use Rattle.byte_rows.specs.Numbers.{number4}
+use Rattle.byte_rows.proofs.Numbers.{number_length}
 use Rattle.archive_add.specs.Adding.{frame_of}
-use Rattle.archive_add.specs.Next.{moved_row, next_entries, padded}
+use Rattle.archive_add.specs.Next.{moved_row, next_entries, padded, numbers4}
 use Rattle.archive.specs.declared.numbers.Entry.{Entry}
 use Rattle.archive.proofs.Read.{SoundIs, sound_is, frames_count, frames_at, picture_at, shown_is}
 use Rattle.archive.proofs.Written.{entry_length, header_length}
 
-pub entry_put : (o p q r s : List ℕ) (to a b c d : ℕ) → to ≤ length o
-    → p ≡ put o to (number4 a) → q ≡ put p (to + 4) (number4 b) → r ≡ put q (to + 8) (number4 c) → s ≡ put r (to + 12) (number4 d)
-    → s ≡ put o to (entry a b c d)
-unfolding entry number4
-entry_put o p q r s to a b c d l e f g h =
-    rw (
-      h,
-      g,
-      f,
-      e,
-      put_put o to (to + 4) (number4 a) (number4 b) l refl,
-      put_put o to (to + 8) (number4 a ++ number4 b) (number4 c) l refl,
-      put_put o to (to + 12) (number4 a ++ number4 b ++ number4 c) (number4 d) l refl,
-    )
+-- ---- parts of lent room that are written on
 
-pub header_put : (o p q r s t : List ℕ) (n d e : ℕ) → d ≡ 20 + 16 * n → e ≡ 20 + 23056 * n
-    → p ≡ put o 0 (number4 1) → q ≡ put p 4 (number4 n) → r ≡ put q 8 (number4 20) → s ≡ put r 12 (number4 d) → t ≡ put s 16 (number4 e)
-    → t ≡ in_room (header n) o
-unfolding header number4
-header_put o p q r s t n d e k l f g h i j =
-    let z : 0 ≤ length o = omega arith in
-    rw (
-      j,
-      i,
-      h,
-      g,
-      f,
-      k,
-      l,
-      put_put o 0 4 (number4 1) (number4 n) z refl,
-      put_put o 0 8 (number4 1 ++ number4 n) (number4 20) z refl,
-      put_put o 0 12 (number4 1 ++ number4 n ++ number4 20) (number4 (20 + 16 * n)) z refl,
-      put_put o 0 16 (number4 1 ++ number4 n ++ number4 20 ++ number4 (20 + 16 * n)) (number4 (20 + 23056 * n)) z refl,
-    )
-    (put_start o (number4 1 ++ number4 n ++ number4 20 ++ number4 (20 + 16 * n) ++ number4 (20 + 23056 * n)))
+pub placed : (out x : List ℕ) (to end : ℕ) → end ≡ to + length x → take to out ++ (x ++ drop (end - to) (drop to out)) ≡ put out to x
+unfolding put
+placed out x to end e =
+    let m : to + (end - to) ≡ to + length x = omega arith in
+    rw (drop-drop (end - to) to out, m) (sym (append_assoc (take to out) x (drop (to + length x) out)))
+
+pub put_none : (out : List ℕ) (to : ℕ) → out ≡ put out to []
+unfolding put
+put_none out to = sym (rw (append-nil, add-zero) (take-append-drop to out))
+
+-- ---- numbers
+
+pub numbers_length : (ns : List ℕ) → length (numbers4 ns) ≡ 4 * length ns
+unfolding numbers4
+numbers_length [] = refl
+numbers_length (n ∷ ns) = rw (length-append, number_length, numbers_length ns) (omega arith)
+
+numbers_more : (ns : List ℕ) (i : ℕ) → i < length ns → numbers4 (take (suc i) ns) ≡ numbers4 (take i ns) ++ number4 (get_or ns i 0)
+unfolding numbers4
+numbers_more [] i l = absurd (omega arith)
+numbers_more (n ∷ ns) zero l = rw append-nil
+numbers_more (n ∷ ns) (suc i) l = rw (numbers_more ns i (omega arith), append_assoc)
+
+pub numbers_start : (out : List ℕ) (to : ℕ) (ns : List ℕ) → out ≡ put out to (numbers4 (take 0 ns))
+unfolding numbers4
+numbers_start out to ns = put_none out to
+
+pub numbers_turn : (start out x ns : List ℕ) (to i at : ℕ) → out ≡ put start to (numbers4 (take i ns)) → x ≡ number4 (get_or ns i 0) → i < length ns → at ≡ to + 4 * i
+    → to + 4 * length ns ≤ length start → take at out ++ (x ++ drop (at + 4 - at) (drop at out)) ≡ put start to (numbers4 (take (i + 1) ns))
+numbers_turn start out x ns to i at o e l a h =
+    let n : length (take i ns) ≡ i = length-take-le i ns (omega arith) in
+    let m : at ≡ to + length (numbers4 (take i ns)) = rw (numbers_length, n) a in
+    let f : at + 4 ≡ at + length x = rw e (rw number_length) in
+    placed out x at (at + 4) f
+    ∙ rw (o, e, add-one, numbers_more ns i l)
+    (put_put start to at (numbers4 (take i ns)) (number4 (get_or ns i 0)) (omega arith) m)
+
+pub numbers_end : (start out ns : List ℕ) (to i : ℕ) → out ≡ put start to (numbers4 (take i ns)) → length ns ≤ i → out ≡ put start to (numbers4 ns)
+numbers_end start out ns to i o h = o ∙ rw (take_all i ns h)
 
 -- ---- the entries of the next archive
 
@@ -64,8 +71,8 @@ unfolding moved_row
 moved_length b m n = rows_length (moved_row b m) 16 n (λ k l. entry_length (bench_at b k) (number_at b k) (shown_at b k) (picture_offset m k))
 
 pub moved_start : (b : List ℕ) (m : ℕ) (out : List ℕ) → out ≡ put out 20 (rows (moved_row b m) 0)
-unfolding rows put
-moved_start b m out = sym (rw append-nil (take-append-drop 20 out))
+unfolding rows
+moved_start b m out = put_none out 20
 
 pub moved_turn : (b : List ℕ) (n k : ℕ) (start out next : List ℕ) (e : Entry) → 20 ≤ length start → out ≡ put start 20 (rows (moved_row b (n + 1)) k) → e ≡ entry_of b k
     → next ≡ put out (20 + 16 * k) (entry e.bench e.number e.shown (20 + 16 * (n + 1) + 23040 * k))
@@ -74,9 +81,6 @@ unfolding rows moved_row picture_offset entry_of
 moved_turn b n k start out next e h o is g =
     rw (g, o, is, add-one k)
     (put_put start 20 (20 + 16 * k) (rows (moved_row b (n + 1)) k) (entry (bench_at b k) (number_at b k) (shown_at b k) (20 + 16 * (n + 1) + 23040 * k)) h (omega (arith, moved_length b (n + 1) k)))
-
-pub moved_size : (b : List ℕ) (m k : ℕ) (start out : List ℕ) → out ≡ put start 20 (rows (moved_row b m) k) → 20 + 16 * k ≤ length start → length out ≡ length start
-moved_size b m k start out o h = ap length o ∙ put_length start 20 (rows (moved_row b m) k) (omega (arith, moved_length b m k))
 
 pub next_entries_lem : (b : List ℕ) (n bench number shown : ℕ) (o p q r : List ℕ)
     → p ≡ in_room (header (n + 1)) o → q ≡ put p 20 (rows (moved_row b (n + 1)) n)
@@ -94,13 +98,29 @@ unfolding next_entries
 next_entries_length b n bench number shown =
     rw (length-append (header (n + 1) ++ rows (moved_row b (n + 1)) n), length-append, header_length, moved_length, entry_length) (omega arith)
 
-pub picture_put : (picture : List ℕ) (used to : ℕ) (o p q : List ℕ) → used ≤ length picture → used ≤ 23040 → to + 23040 ≤ length o
-    → p ≡ copied o to (take used picture) → q ≡ put p (to + used) (zeros (23040 - used)) → q ≡ put o to (padded picture used)
+zeros_are : (n : ℕ) → replicate n 0 ≡ zeros n
+unfolding zeros
+zeros_are zero = refl
+zeros_are (suc n) = ap (λ (xs : List ℕ). 0 ∷ xs) (zeros_are n)
+
+pub picture_put : (picture x y out : List ℕ) (used to : ℕ) → used ≤ length picture → used ≤ 23040 → to + 23040 ≤ length out → x ≡ take used picture
+    → (let p : List ℕ = take to out ++ (x ++ drop (to + used - to) (drop to out)) in
+    y ≡ replicate (length (take (to + 23040 - (to + used)) (drop (to + used) p))) 0
+    → take (to + used) p ++ (y ++ drop (to + 23040 - (to + used)) (drop (to + used) p)) ≡ put out to (padded picture used))
 unfolding padded
-picture_put picture used to o p q h w l e f =
-    let n : length (take used picture) ≡ used = length-take-le used picture h in
-    rw (f, e, copied_fits o to (take used picture) (rw n (omega arith)))
-    (put_put o to (to + used) (take used picture) (zeros (23040 - used)) (omega arith) (rw n))
+picture_put picture x y out used to h w l e f =
+    let n : length x ≡ used = ap length e ∙ length-take-le used picture h in
+    let i : take to out ++ (x ++ drop (to + used - to) (drop to out)) ≡ put out to x = placed out x to (to + used) (rw n) in
+    let v : length (put out to x) ≡ length out = put_length out to x (rw n (omega arith)) in
+    let m : length (take (to + 23040 - (to + used)) (drop (to + used) (put out to x))) ≡ 23040 - used =
+    length-take-le (to + 23040 - (to + used)) (drop (to + used) (put out to x)) (simp length-drop (omega (arith, v))) ∙ omega arith in
+    let z : y ≡ zeros (23040 - used) = rw (i, m, zeros_are) at f in
+    let k : length y ≡ 23040 - used = ap length z ∙ zeros_length (23040 - used) in
+    let at : to + used ≡ to + length x = omega (arith, n) in
+    let end : to + 23040 ≡ to + used + length y = omega (arith, k) in
+    let both : put (put out to x) (to + used) y ≡ put out to (x ++ y) = put_put out to (to + used) x y (omega arith) at in
+    let done : put out to (x ++ y) ≡ put out to (take used picture ++ zeros (23040 - used)) = rw (e, z) in
+    rw i (placed (put out to x) y (to + used) (to + 23040) end ∙ both ∙ done)
 
 -- ---- the next archive
 
@@ -154,21 +174,21 @@ module _ (b : List ℕ) (is : SoundIs b) (f : Frame) where
       (simp append_assoc)
 
 -- put down in its three parts
-pub next_put : (b : List ℕ) (n bench number shown : ℕ) (picture : List ℕ) (o p q r : List ℕ) → sound b ≡ true → n ≡ count_of b → 20 + 23056 * (n + 1) ≤ length o
-    → shown ≤ 256 → length picture ≡ 23040 → p ≡ in_room (next_entries b n bench number shown) o
-    → q ≡ copied p (20 + 16 * (n + 1)) (take (length b - (20 + 16 * n)) (drop (20 + 16 * n) b))
-    → r ≡ put q (20 + 16 * (n + 1) + 23040 * n) (padded picture (shown * 90))
+pub next_put : (b : List ℕ) (n bench number shown from end : ℕ) (picture : List ℕ) (o p x r : List ℕ) → SoundIs b → n ≡ count_of b → 20 + 23056 * (n + 1) ≤ length o
+    → shown ≤ 256 → length picture ≡ 23040 → from ≡ 20 + 16 * (n + 1) → end ≡ from + 23040 * n → p ≡ in_room (next_entries b n bench number shown) o
+    → x ≡ take (length b - (20 + 16 * n)) (drop (20 + 16 * n) b)
+    → r ≡ put (take from p ++ (x ++ drop (end - from) (drop from p))) end (padded picture (shown * 90))
     → r ≡ in_room (archive_of (frames_of b ++ (frame_of bench number shown picture ∷ []))) o
 unfolding padded frame_of shown_of
-next_put b n bench number shown picture o p q r s at room h w e f g =
-    let is = sound_is b s in
+next_put b n bench number shown from end picture o p x r is at room h w s t e f g =
     let m : length (take (shown * 90) picture) ≡ shown * 90 = length-take-le (shown * 90) picture (omega arith) in
     let d : shown * 90 / 90 ≡ shown = omega arith in
-    let x : List ℕ = next_entries b n bench number shown in
+    let head : List ℕ = next_entries b n bench number shown in
     let y : List ℕ = drop (20 + 16 * n) b in
-    let i : length x ≡ 20 + 16 * (n + 1) = next_entries_length b n bench number shown in
+    let q : x ≡ y = f ∙ rest_all b (20 + 16 * n) in
+    let i : length head ≡ from = next_entries_length b n bench number shown ∙ sym s in
     let v : length y ≡ 23040 * n = simp length-drop (omega (arith, is.head.size)) in
-    let j : length (x ++ y) ≡ 20 + 16 * (n + 1) + 23040 * n = simp length-append (omega (arith, i, v)) in
-    let fits : 20 + 16 * (n + 1) + length y ≤ length (in_room x o) = rw (room_length x o (omega (arith, i))) (omega (arith, v)) in
-    rw (next_archive_lem b is (frame_of bench number shown picture), m, d, ← at, g, f, e, rest_all b (20 + 16 * n), copied_fits (in_room x o) (20 + 16 * (n + 1)) y fits, room_put_at x y o (20 + 16 * (n + 1)) (sym i))
-    (room_put_at (x ++ y) (padded picture (shown * 90)) o (20 + 16 * (n + 1) + 23040 * n) (sym j))
+    let u : end ≡ from + length x = omega (arith, ap length q, v) in
+    let j : length (head ++ y) ≡ end = simp length-append (omega (arith, i, v)) in
+    rw (next_archive_lem b is (frame_of bench number shown picture), m, d, ← at, g, placed p x from end u, q, e, room_put_at head y o from (sym i))
+    (room_put_at (head ++ y) (padded picture (shown * 90)) o end (sym j))

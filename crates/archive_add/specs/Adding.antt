@@ -4,9 +4,12 @@ use Rattle.facts.specs.Lists.{in_room}
 use Rattle.archive.specs.Format.{Frame, archive_of}
 use Rattle.archive.specs.Sound.{count_of, frame_at, frames_of, sound, is_new}
 use Rattle.archive.specs.Answers.{good_fields}
-use Rattle.archive_add.specs.declared.Written.{Written}
 
 -- an answer: the length written, or 0 and the refusal
+pub record Written : Type 0 where
+  pub length : ℕ
+  pub refusal : ℕ
+
 unfoldable pub length_or : ℕ → ℕ → Written
 length_or size refusal = record { length = cond (eqb refusal 0) size 0; refusal = refusal }
 

@@ -1,45 +1,48 @@
 // Archives written in lent room: the archive of no frames, and the next one with a frame more.
 #![tactic(auto)]
 
-ghost use Rattle.std.specs.Prelude.{◌-◌, ◌/◌, ◌≤◌, ◌≡◌, length};
-ghost use Rattle.archive.specs.Sound.{count_of};
-ghost use Rattle.archive_add.specs.Adding.{length_or, start_refusal, start_room, next_length, room_for, add_refusal, add_room};
+ghost use Rattle.std.specs.Prelude.{◌≡◌, ◌&&◌, length, MatchResult};
+ghost use Rattle.refusal.specs.Numbers.{answered, named};
+ghost use Rattle.archive.specs.Sound.{count_of, frame_at, is_new};
+ghost use Rattle.archive.specs.Answers.{good_fields};
+ghost use Rattle.archive_add.specs.Adding.{start_refusal, start_room, next_length, room_for, add_refusal, add_room};
 
 mod next;
 mod parts;
 
-use archive::Index;
+use archive::{Archive, Pair};
+use refusal::Refusal;
 
-// The length of the archive that was written, and the refusal number.
-#[derive(Clone, Copy)]
-pub struct Written {
-    pub length: usize,
-    pub refusal: u8,
+// What a call says of the frame that it adds.
+#[derive(Clone, Copy, PartialEq, Eq, Debug)]
+pub struct Label {
+    pub bench: u32,
+    pub number: u32,
+    pub shown: u32,
 }
 
-// Writes the archive of no frames to the front of the room.
-pub fn start(room: &mut [u8]) -> Written
-    ensures { (result ≡ length_or 20 (start_refusal (length room.old))) × (room.new ≡ start_room room.old) }
+impl Label {
+    fn pair(self) -> Pair
+        ensures { result ≡ record { bench = self.bench; number = self.number } }
+    {
+        Pair {
+            bench: self.bench,
+            number: self.number,
+        }
+    }
+}
+
+// Writes the archive of no frames to the front of the room, and gives its length.
+#[tactic(auto, unfolding(crate::specs::Adding::start_refusal, crate::specs::Adding::start_room, refusal::specs::Numbers::answered, refusal::specs::Numbers::named))]
+pub fn start(room: &mut [u8]) -> Result<usize, Refusal>
+    ensures length { result ≡ answered (start_refusal (length room.old)) 20 }
+    ensures room { room.new ≡ start_room room.old }
 {
     if room.len() < 20 {
-        return Written {
-            length: 0,
-            refusal: 12,
-        };
+        return Err(Refusal::NoRoom);
     }
     parts::put_header(room, 0);
-    Written {
-        length: 20,
-        refusal: 0,
-    }
-}
-
-// The number of frames in a sound archive of a length.
-fn frames_in(size: usize) -> usize
-    requires { 20 ≤ size }
-    ensures { result ≡ (size - 20) / 23056 }
-{
-    (size - 20) / 23056
+    Ok(20)
 }
 
 // Whether an archive of n has a next, and it fits the room.
@@ -47,57 +50,42 @@ fn frames_in(size: usize) -> usize
 fn has_room(n: usize, room: usize) -> bool
     ensures { result ≡ room_for n room }
 {
-    if n >= 1000 {
-        return false;
-    }
-    20 + 23056 * (n + 1) <= room
+    n < 1000 && 20 + 23056 * (n + 1) <= room
 }
 
-fn add_refusal(a: &[u8], bench: u32, number: u32, shown: u32, size: usize, room: usize) -> u8
-    ensures { result ≡ add_refusal a.now bench number shown size room }
+// Whether the fields of a frame are in range, and its pair is not there yet.
+#[tactic(auto, using(archive::proofs::Pairs::none_new))]
+fn is_new(archive: &Archive, label: Label) -> bool
+    ensures { result ≡ (good_fields label.bench label.shown && is_new (frame_at archive.now.layout.bytes.now) label.bench label.number (count_of archive.now.layout.bytes.now)) }
+{
+    archive::good_fields(label.bench, label.shown) && archive.find(label.pair()).is_none()
+}
+
+// The archive, if the frame may be added to it.
+#[tactic(auto, unfolding(crate::specs::Adding::add_refusal, refusal::specs::Numbers::named))]
+fn open_for<'a>(a: &'a [u8], label: Label, size: usize, room: usize) -> Result<Archive<'a>, Refusal>
+    ensures { MatchResult result (λ s. (s.layout.bytes.now ≡ a.now) × (add_refusal a.now label.bench label.number label.shown size room ≡ 0)) (λ e. (add_refusal a.now label.bench label.number label.shown size room ≡ 0 → ⊥) × (named (add_refusal a.now label.bench label.number label.shown size room) ≡ e)) }
 {
     if size != 23040 {
-        return 2;
+        return Err(Refusal::BadLength);
     }
-    let found = archive::find(a, bench, number);
-    if found.refusal != 0 {
-        return 10;
+    let archive = Archive::open(a)?;
+    if !is_new(&archive, label) {
+        return Err(Refusal::BadFrame);
     }
-    if !archive::good_fields(bench, shown) {
-        return 11;
+    if !has_room(archive.layout.count, room) {
+        return Err(Refusal::NoRoom);
     }
-    let index = found.index;
-    match index {
-        Index::At(_) => 11,
-        Index::Nothing => {
-            if has_room(frames_in(a.len()), room) {
-                0
-            } else {
-                12
-            }
-        }
-    }
+    Ok(archive)
 }
 
-// Writes the next archive, the frame its last, to the front of the room.
-pub fn add(
-    a: &[u8],
-    bench: u32,
-    number: u32,
-    shown: u32,
-    picture: &[u8],
-    room: &mut [u8],
-) -> Written
-    ensures { (result ≡ length_or (next_length (count_of a.now)) (add_refusal a.now bench number shown (length picture.now) (length room.old))) × (room.new ≡ add_room a.now bench number shown picture.now room.old) }
+// Writes the next archive, the frame its last, to the front of the room, and gives its length.
+#[tactic(auto, unfolding(crate::specs::Adding::add_room, refusal::specs::Numbers::answered))]
+pub fn add(a: &[u8], label: Label, picture: &[u8], room: &mut [u8]) -> Result<usize, Refusal>
+    ensures length { result ≡ answered (add_refusal a.now label.bench label.number label.shown (length picture.now) (length room.old)) (next_length (count_of a.now)) }
+    ensures room { room.new ≡ add_room a.now label.bench label.number label.shown picture.now room.old }
 {
-    let refusal = add_refusal(a, bench, number, shown, picture.len(), room.len());
-    if refusal != 0 {
-        return Written { length: 0, refusal };
-    }
-    let n = frames_in(a.len());
-    next::put_next(a, n, bench, number, shown, picture, room);
-    Written {
-        length: 20 + 23056 * (n + 1),
-        refusal: 0,
-    }
+    let archive = open_for(a, label, picture.len(), room.len())?;
+    next::put_next(&archive, label, picture, room);
+    Ok(20 + 23056 * (archive.layout.count + 1))
 }

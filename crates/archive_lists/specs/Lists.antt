@@ -3,10 +3,9 @@
 use Rattle.std.specs.Prelude.{ℕ, suc, ◌+◌, ◌-◌, ◌*◌, ◌≤◌, ◌<◌, ◌≡◌, true, false, cond, ◌&&◌, List, [], ◌∷◌, ◌++◌, map, eqb, length, take, get_or}
 use Rattle.facts.specs.Lists.{in_room}
 use Rattle.byte_rows.specs.Rows.{zeros}
-use Rattle.archive.specs.declared.EntryRead.{EntryRead}
 use Rattle.archive.specs.Format.{Frame, shown_of, frame_in, archive_of}
 use Rattle.archive.specs.Sound.{count_of, frames_of, is_new, sound, storable}
-use Rattle.archive.specs.Answers.{good_fields, count_answer}
+use Rattle.archive.specs.Answers.{EntryRead, good_fields, count_answer}
 use Rattle.archive_read.specs.Reading.{read_answer, read_picture}
 use Rattle.archive_add.specs.Adding.{length_or, start_refusal, start_room, frame_of, next_length, add_refusal, add_room}
 

@@ -1,11 +1,7 @@
 -- What the C functions give for archives: results packed in one number.
-use Rattle.std.specs.Prelude.{ℕ, ◌+◌, ◌*◌, cond, eqb}
-use Rattle.archive.specs.declared.Counted.{Counted}
-use Rattle.archive.specs.declared.EntryRead.{EntryRead}
-use Rattle.archive.specs.declared.search.Index.{Index}
-use Rattle.archive.specs.declared.search.Index.TheVariants.{At, Nothing}
-use Rattle.archive.specs.declared.Found.{Found}
-use Rattle.archive_add.specs.declared.Written.{Written}
+use Rattle.std.specs.Prelude.{ℕ, ◌+◌, ◌*◌, cond, eqb, Option, None, Some}
+use Rattle.archive.specs.Answers.{Counted, EntryRead, Found}
+use Rattle.archive_add.specs.Adding.{Written}
 
 -- a reply: bits 0 to 31 a number, 32 to 39 the refusal, 40 on the rest
 unfoldable pub reply : ℕ → ℕ → ℕ → ℕ
@@ -26,9 +22,9 @@ unfoldable pub entry_reply : EntryRead → ℕ
 entry_reply e = reply e.entry.number e.refusal (e.entry.bench + 65536 * shown_code e.entry.shown)
 
 -- of a find: the index, and bit 20 for found
-unfoldable pub index_reply : Index → ℕ → ℕ
-index_reply (At k) refusal = reply (k + 1048576) refusal 0
-index_reply Nothing refusal = reply 0 refusal 0
+unfoldable pub index_reply : Option ℕ → ℕ → ℕ
+index_reply (Some k) refusal = reply (k + 1048576) refusal 0
+index_reply None refusal = reply 0 refusal 0
 
 unfoldable pub find_reply : Found → ℕ
 find_reply f = index_reply f.index f.refusal

@@ -1,16 +1,19 @@
 // By value, what the C interface gives for archives: packed numbers.
 #![tactic(auto)]
 
-ghost use Rattle.std.specs.Prelude.{◌≤◌, ◌≡◌, length};
+ghost use Rattle.std.specs.Prelude.{◌+◌, ◌*◌, ◌≤◌, ◌≡◌, length, Option, Some, None, IfOk, MatchResult, MatchOption};
+ghost use Rattle.refusal.specs.Numbers.{number};
 ghost use Rattle.archive.specs.Sound.{count_of};
 ghost use Rattle.archive.specs.Answers.{count_answer, entry_answer, find_answer};
 ghost use Rattle.archive_read.specs.Reading.{read_answer, read_picture};
 ghost use Rattle.archive_add.specs.Adding.{length_or, start_refusal, start_room, next_length, add_refusal, add_room};
-ghost use Rattle.c_archive.specs.Replies.{reply, written_reply, count_reply, shown_code, entry_reply, find_reply};
+ghost use Rattle.c_archive.specs.Replies.{reply, written_reply, count_reply, shown_code, entry_reply, index_reply, find_reply};
 
-use archive::{EntryRead, Index};
-use archive_add::Written;
+use archive::{Entry, Pair};
+use archive_add::Label;
+use refusal::Refusal;
 
+// The reply of `c_numbers` has 16 bits of a number, and flags; here the number has 32.
 #[tactic(auto, unfolding(crate::specs::Replies::reply))]
 fn reply(number: u64, refusal: u8, more: u64) -> u64
     requires { (number ≤ 4294967295) × (more ≤ 16777215) }
@@ -19,12 +22,20 @@ fn reply(number: u64, refusal: u8, more: u64) -> u64
     number + (4294967296 * refusal as u64 + 1099511627776 * more)
 }
 
-#[tactic(auto, unfolding(crate::specs::Replies::written_reply))]
-fn written_reply(w: Written) -> u64
-    requires { w.length ≤ 4294967295 }
-    ensures { result ≡ written_reply w }
+fn refused(refusal: Refusal) -> u64
+    ensures { result ≡ reply 0 (number refusal) 0 }
 {
-    reply(w.length as u64, w.refusal, 0)
+    reply(0, refusal.into(), 0)
+}
+
+fn written_reply(written: Result<usize, Refusal>) -> u64
+    requires { IfOk written (λ n. n ≤ 4294967295) }
+    ensures { MatchResult written (λ n. result ≡ reply n 0 0) (λ r. result ≡ reply 0 (number r) 0) }
+{
+    match written {
+        Ok(length) => reply(length as u64, 0, 0),
+        Err(refusal) => refused(refusal),
+    }
 }
 
 // 1 for 200 shown lines, 2 for 256.
@@ -32,23 +43,24 @@ fn written_reply(w: Written) -> u64
 fn shown_code(shown: u32) -> u64
     ensures { (result ≡ shown_code shown) × (result ≤ 2) }
 {
-    if shown == 256 {
-        return 2;
+    match shown {
+        256 => 2,
+        200 => 1,
+        _ => 0,
     }
-    if shown == 200 {
-        return 1;
-    }
-    0
 }
 
-#[tactic(auto, unfolding(crate::specs::Replies::entry_reply))]
-fn entry_read_reply(r: EntryRead) -> u64
-    requires { r.entry.bench ≤ 65535 }
-    ensures { result ≡ entry_reply r }
+fn entry_read_reply(entry: Result<Entry, Refusal>) -> u64
+    requires { IfOk entry (λ e. e.bench ≤ 65535) }
+    ensures { MatchResult entry (λ e. result ≡ reply e.number 0 (e.bench + 65536 * shown_code e.shown)) (λ r. result ≡ reply 0 (number r) 0) }
 {
-    let e = r.entry;
-    let code = shown_code(e.shown);
-    reply(e.number as u64, r.refusal, e.bench as u64 + 65536 * code)
+    match entry {
+        Ok(e) => {
+            let code = shown_code(e.shown);
+            reply(e.number as u64, 0, e.bench as u64 + 65536 * code)
+        }
+        Err(refusal) => refused(refusal),
+    }
 }
 
 pub fn start_reply(room: &mut [u8]) -> u64
@@ -57,12 +69,13 @@ pub fn start_reply(room: &mut [u8]) -> u64
     written_reply(archive_add::start(room))
 }
 
-#[tactic(auto, unfolding(crate::specs::Replies::count_reply))]
 pub fn count_reply(a: &[u8]) -> u64
     ensures { result ≡ count_reply (count_answer a.now) }
 {
-    let c = archive::count(a);
-    reply(c.count as u64, c.refusal, 0)
+    match archive::count(a) {
+        Ok(count) => reply(count as u64, 0, 0),
+        Err(refusal) => refused(refusal),
+    }
 }
 
 pub fn entry_reply(a: &[u8], k: u32) -> u64
@@ -74,12 +87,11 @@ pub fn entry_reply(a: &[u8], k: u32) -> u64
 pub fn find_reply(a: &[u8], bench: u32, number: u32) -> u64
     ensures { result ≡ find_reply (find_answer a.now bench number) }
 {
-    let f = archive::find(a, bench, number);
-    let refusal = f.refusal;
-    let index = f.index;
-    match index {
-        Index::At(k) => reply(k as u64 + 1048576, refusal, 0),
-        Index::Nothing => reply(0, refusal, 0),
+    let pair = Pair { bench, number };
+    match archive::find(a, pair) {
+        Ok(Some(k)) => reply(k as u64 + 1048576, 0, 0),
+        Ok(None) => reply(0, 0, 0),
+        Err(refusal) => refused(refusal),
     }
 }
 
@@ -99,5 +111,10 @@ pub fn add_reply(
 ) -> u64
     ensures { (result ≡ written_reply (length_or (next_length (count_of a.now)) (add_refusal a.now bench number shown (length picture.now) (length room.old)))) × (room.new ≡ add_room a.now bench number shown picture.now room.old) }
 {
-    written_reply(archive_add::add(a, bench, number, shown, picture, room))
+    let label = Label {
+        bench,
+        number,
+        shown,
+    };
+    written_reply(archive_add::add(a, label, picture, room))
 }

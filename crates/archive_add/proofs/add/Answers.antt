@@ -1,17 +1,23 @@
-use Rattle.std.proofs.Common.{arith}
-use Rattle.archive_add.proofs.Adding.{add_refused, add_known, next_allowed, add_done}
+use Rattle.std.proofs.Common.{◌∙◌, sym, arith}
+use Rattle.archive.proofs.Written.{shown_most}
+use Rattle.archive_add.proofs.Adding.{add_taken, add_length}
 use Rattle.archive_add.proofs.add.Goals as goal
 
-pub returns-then-refusal-ne0 : goal.returns-then-refusal-ne0
-returns-then-refusal-ne0 c = add_refused _ _ _ _ _ _ _ c.add_refusal-refusal.ensures c.if-refusal-ne0.true
+pub put_next-requires-clause-few : goal.put_next-requires-clause-few
+put_next-requires-clause-few c =
+    let t = add_taken _ _ _ _ _ _ c.in_ok-archive.ensures.1 in
+    rw (c.in_ok-archive.archive.layout.counted, c.in_ok-archive.ensures.0) t.few
 
-pub frames_in-n-requires : goal.frames_in-n-requires
-frames_in-n-requires c = let t = add_known _ _ _ _ _ _ _ c.add_refusal-refusal.ensures c.if-refusal-ne0.false in omega (arith, t.length)
+pub put_next-requires-clause-fits : goal.put_next-requires-clause-fits
+put_next-requires-clause-fits c =
+    let t = add_taken _ _ _ _ _ _ c.in_ok-archive.ensures.1 in
+    rw (c.in_ok-archive.archive.layout.counted, c.in_ok-archive.ensures.0) t.fits
 
-pub put_next-requires : goal.put_next-requires
-put_next-requires c =
-    let p = next_allowed _ _ _ _ _ _ _ (add_known _ _ _ _ _ _ _ c.add_refusal-refusal.ensures c.if-refusal-ne0.false) c.frames_in-n.ensures in
-    record { a_value = p.0; shown_bound = p.1 }
+pub put_next-requires-clause-shown : goal.put_next-requires-clause-shown
+put_next-requires-clause-shown c = shown_most _ (add_taken _ _ _ _ _ _ c.in_ok-archive.ensures.1).good_shown_lem
 
-pub returns : goal.returns
-returns c = add_done _ _ _ _ _ _ _ c.add_refusal-refusal.ensures c.if-refusal-ne0.false _ c.frames_in-n.ensures _ c.put_next.ensures
+pub put_next-requires-clause-whole : goal.put_next-requires-clause-whole
+put_next-requires-clause-whole c = (add_taken _ _ _ _ _ _ c.in_ok-archive.ensures.1).whole
+
+pub returns-clause-length : goal.returns-clause-length
+returns-clause-length c = add_length _ _ _ _ _ _ _ _ c.in_ok-archive.archive.layout.counted c.in_ok-archive.ensures.0 c.in_ok-archive.ensures.1

@@ -8,4 +8,5 @@ loop-k-init c = moved_start _ _ _
 
 pub loop-k-preserved : goal.loop-k-preserved
 loop-k-preserved c =
-    moved_turn _ _ _ _ _ _ _ (omega arith) c.loop-k.invariant (c.entry_at-e.ensures ∙ entry_there _ _ (omega arith)) c.put_entry.ensures
+    let s = c.args.archive.now.layout.filled in
+    moved_turn _ _ _ _ _ _ c.entry_at-e.result (omega arith) c.loop-k.invariant (c.entry_at-e.ensures ∙ entry_there _ _ (omega arith)) c.put_entry.ensures
