@@ -144,6 +144,9 @@ flags_good b f = rw (le-leb _ _ f.external, le-leb _ _ f.driven, le-leb _ _ f.bl
 pub good_counter : (b : Board) → good b ≡ true → b.clock.counter ≤ 15
 good_counter b e = (clock_ranges b.rate b.clock (good_parts b e).clock).0
 
+pub good_place : (b : Board) → good b ≡ true → b.boot.at ≤ 1024
+good_place b e = (boot_ranges b.boot (good_parts b e).boot).1
+
 -- "never route NMI with the disc line on"
 pub good_nmi : (b : Board) → good b ≡ true → (eqb b.disc.route 1 && eqb b.disc.line 1) ≡ false
 unfolding good_disc

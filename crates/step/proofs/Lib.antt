@@ -1,3 +1,2 @@
-mod Lent
-mod Plain
-mod WritesAndPorts
+mod Answers
+mod Does

@@ -1,62 +1,46 @@
-// What a kind accepts with, and what it refuses with. The record is copied by its fields, for speed.
-ghost use Rattle.std.specs.Prelude.{◌≡◌, true};
-ghost use Rattle.step_rules.specs.Answers.{accepts, refuses, silent, giving, forwarding};
+// What a kind gives. The record is copied by its fields, for speed.
+ghost use Rattle.std.specs.Prelude.{◌≡◌, Ok, Err};
+ghost use Rattle.step_rules.specs.Answers.{giving};
 
 use board::Board;
+use refusal::Refusal;
 use step_rules::{Effect, Outcome};
 
-// The record handed on, with no byte and not forwarded.
-pub(crate) fn accepts(b: Board) -> Effect
-    ensures { result ≡ accepts b silent }
+// No byte, and not forwarded.
+pub(crate) const SILENT: Outcome = Outcome {
+    byte: 0,
+    forwarded: false,
+};
+
+// Forwarded to the host, with no byte.
+pub(crate) const FORWARDED: Outcome = Outcome {
+    byte: 0,
+    forwarded: true,
+};
+
+// The record handed on, with an outcome.
+pub(crate) fn accept(board: Board, outcome: Outcome) -> Effect
+    ensures { result ≡ record { board = board; outcome = Ok outcome } }
 {
     Effect {
-        board: b.by_fields(),
-        outcome: Outcome {
-            byte: 0,
-            forwarded: false,
-        },
-        refusal: 0,
+        board: board.by_fields(),
+        outcome: Ok(outcome),
     }
 }
 
-// The record handed on, and a byte.
-pub(crate) fn gives(b: Board, byte: u8) -> Effect
-    ensures { result ≡ accepts b (giving byte) }
+// The same with a byte.
+pub(crate) fn give(board: Board, byte: u8) -> Effect
+    ensures { result ≡ record { board = board; outcome = Ok (giving byte) } }
 {
-    Effect {
-        board: b.by_fields(),
-        outcome: Outcome {
-            byte,
-            forwarded: false,
-        },
-        refusal: 0,
-    }
+    accept(board, Outcome { byte, ..SILENT })
 }
 
-// The record handed on, and the access forwarded to the host.
-pub(crate) fn forwards(b: Board) -> Effect
-    ensures { result ≡ accepts b (forwarding true) }
+// The record given, and a refusal.
+pub(crate) fn refuse(board: Board, refusal: Refusal) -> Effect
+    ensures { result ≡ record { board = board; outcome = Err refusal } }
 {
     Effect {
-        board: b.by_fields(),
-        outcome: Outcome {
-            byte: 0,
-            forwarded: true,
-        },
-        refusal: 0,
-    }
-}
-
-// The record given, and a refusal number.
-pub(crate) fn refuses(b: Board, refusal: u8) -> Effect
-    ensures { result ≡ refuses b refusal }
-{
-    Effect {
-        board: b.by_fields(),
-        outcome: Outcome {
-            byte: 0,
-            forwarded: false,
-        },
-        refusal,
+        board: board.by_fields(),
+        outcome: Err(refusal),
     }
 }

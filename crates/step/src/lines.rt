@@ -1,8 +1,10 @@
 // A step's answer with its interrupt lines: of what a kind does, or of a refusal.
 ghost use Rattle.std.specs.Prelude.{◌≡◌};
-ghost use Rattle.step_rules.specs.Answers.{int_line, nmi_line, refused_answer, answer_of};
+ghost use Rattle.refusal.specs.Numbers.{number};
+ghost use Rattle.step_rules.specs.Answers.{int_line, nmi_line, refused_answer, told, answer_of};
 
 use board::Board;
+use refusal::Refusal;
 use step_rules::{Answer, Effect, Reply};
 
 #[tactic(auto, unfolding(step_rules::specs::Answers::int_line))]
@@ -20,21 +22,17 @@ fn nmi_line(b: Board) -> bool
 }
 
 // A refused step's answer: the record given, and its lines, which are off where it is not good.
-#[tactic(auto, unfolding(step_rules::specs::Answers::refused_answer))]
-pub(crate) fn refused(b: Board, number: u8) -> Answer
-    ensures { result ≡ refused_answer b number }
+#[tactic(auto, unfolding(step_rules::specs::Answers::refused_answer), using(crate::proofs::Answers::answered_number))]
+pub(crate) fn refused(b: Board, refusal: Refusal) -> Answer
+    ensures { result ≡ told (refused_answer b (number refusal)) }
 {
-    let int = int_line(b);
-    let nmi = nmi_line(b);
-    let known = !(number == 1);
+    let known = refusal != Refusal::BadRecord;
     Answer {
         board: b,
         reply: Reply {
-            byte: 0,
-            int: known & int,
-            nmi: known & nmi,
-            forwarded: false,
-            refusal: number,
+            outcome: Err(refusal),
+            int: known & int_line(b),
+            nmi: known & nmi_line(b),
         },
     }
 }
@@ -53,11 +51,9 @@ pub(crate) fn with_interrupt_lines(e: Effect) -> Answer
     Answer {
         board,
         reply: Reply {
-            byte: e.outcome.byte,
+            outcome: e.outcome,
             int,
             nmi,
-            forwarded: e.outcome.forwarded,
-            refusal: e.refusal,
         },
     }
 }

@@ -1,17 +1,18 @@
 // What ports (document 01: channels) in and out do.
-ghost use Rattle.std.specs.Prelude.{◌≡◌, ◌≤◌};
-ghost use Rattle.step_rules.specs.Ports.{forwarded_out, status_byte};
+ghost use Rattle.std.specs.Prelude.{◌≡◌, List, ℕ};
+ghost use Rattle.step_rules.specs.Ports.{forwarded_in, forwarded_out, status_byte};
 ghost use Rattle.step_rules.specs.Answers.{step_effect};
-ghost use Rattle.step.specs.Plain.{plain_effect};
+ghost use Rattle.step.specs.Checked.{Checked};
 
-use crate::effects::{accepts, forwards, gives, refuses};
-use board::Board;
+use crate::effects::{FORWARDED, SILENT, accept, give, refuse};
+use board::{Board, Clock};
+use refusal::Refusal;
 use step_rules::{Effect, Step};
 
 // F8 as read: 64 in the flyback, 32 with the disc line on, 16 on 50 Hz, and the counter.
 #[tactic(auto, unfolding(step_rules::specs::Ports::status_byte))]
 fn status(b: Board) -> u8
-    requires { b.clock.counter ≤ 15 }
+    requires { Checked b }
     ensures { result ≡ status_byte b }
 {
     let flyback = (b.clock.beam < 26) as u8;
@@ -25,50 +26,50 @@ fn status(b: Board) -> u8
 fn is_forwarded(port: u8) -> bool
     ensures { result ≡ forwarded_out port }
 {
-    match port {
-        0x01 => true,
-        0x80..=0xef => true,
-        0xfc..=0xfd => true,
-        _ => false,
-    }
+    matches!(port, 0x01 | 0x80..=0xef | 0xfc..=0xfd)
+}
+
+// Those in: 00 is too.
+#[tactic(auto, unfolding(step_rules::specs::Ports::forwarded_in))]
+fn is_forwarded_in(port: u8) -> bool
+    ensures { result ≡ forwarded_in port }
+{
+    (port == 0x00) | is_forwarded(port)
 }
 
 // F4 and F8 give one byte; F4 alone clears the counter.
-#[tactic(auto, unfolding(crate::specs::Plain::plain_effect, step_rules::specs::Answers::own_refusal, step_rules::specs::Answers::kind_refusal, step_rules::specs::Answers::state_refusal, step_rules::specs::Answers::stream_ended, step_rules::specs::Answers::step_outcome, board::specs::Record::first_refusal, step_rules::specs::Answers::port_in_outcome, step_rules::specs::Ports::decoded_in, step_rules::specs::Ports::forwarded_in))]
-pub(crate) fn port_in_effect(b: Board, port: u8, ram: &[u8], boot: &[u8]) -> Effect
-    requires { b.clock.counter ≤ 15 }
-    ensures { result ≡ plain_effect b ram.now boot.now (Step.PortIn port) }
+#[tactic(auto, using(crate::proofs::Does::in_clears, crate::proofs::Does::in_reads, crate::proofs::Does::in_forwards, crate::proofs::Does::in_none))]
+pub(crate) fn port_in(b: Board, port: u8) -> Effect
+    requires { Checked b }
+    ensures { (ram boot : List ℕ) → result ≡ step_effect b ram boot (Step.PortIn port) }
 {
     match port {
-        0x00 => forwards(b),
-        0xf4 | 0xf8 => {
+        0xf4 => {
             let byte = status(b);
-            let mut after = b;
-            if port == 0xf4 {
-                after.clock.counter = 0;
-            }
-            gives(after, byte)
+            let cleared = Board {
+                clock: Clock {
+                    counter: 0,
+                    ..b.clock
+                },
+                ..b
+            };
+            give(cleared, byte)
         }
-        _ => {
-            if is_forwarded(port) {
-                forwards(b)
-            } else {
-                refuses(b, 5)
-            }
-        }
+        0xf8 => give(b, status(b)),
+        _ if is_forwarded_in(port) => accept(b, FORWARDED),
+        _ => refuse(b, Refusal::NoPort),
     }
 }
 
-#[tactic(auto, using(crate::proofs::WritesAndPorts::out_register, crate::proofs::WritesAndPorts::out_none))]
-pub(crate) fn port_out_effect(b: Board, port: u8, value: u8, ram: &[u8], boot: &[u8]) -> Effect
-    ensures { result ≡ step_effect b ram.now boot.now (Step.PortOut port value) }
+#[tactic(auto, using(crate::proofs::Does::out_register, crate::proofs::Does::out_idle, crate::proofs::Does::out_forwards, crate::proofs::Does::out_none))]
+pub(crate) fn port_out(b: Board, port: u8, value: u8) -> Effect
+    requires { Checked b }
+    ensures { (ram boot : List ℕ) → result ≡ step_effect b ram boot (Step.PortOut port value) }
 {
-    if is_forwarded(port) {
-        return forwards(b);
-    }
     match port {
-        0xf0..=0xf8 => accepts(b.out(port, value)),
-        0xfa..=0xfb => accepts(b),
-        _ => refuses(b, 5),
+        0xf0..=0xf8 => accept(b.out(port, value), SILENT),
+        0xfa..=0xfb => accept(b, SILENT),
+        _ if is_forwarded(port) => accept(b, FORWARDED),
+        _ => refuse(b, Refusal::NoPort),
     }
 }

@@ -18,12 +18,13 @@ use Rattle.board.specs.declared.record.Board.{Board}
 use Rattle.board.specs.Record.{good, record_refusal, view_of, with_dirty}
 use Rattle.board.specs.Dirty.{dirty_after}
 use Rattle.board.proofs.Dirty.{dirty_same}
+use Rattle.board.proofs.Good.{good_nmi}
 use Rattle.board.proofs.Refusals.{first_two, first_none, first_second, first_first, not_refused, record_good}
 use Rattle.refusal.specs.Numbers.{named, answered}
 use Rattle.step_rules.specs.declared.Step.{Step}
 use Rattle.step_rules.specs.Ports.{decoded_in, decoded_out}
 use Rattle.step_rules.specs.After.{video_after, ram_after, parts_after, board_after}
-use Rattle.step_rules.specs.Answers.{boot_fits, length_refusal, kind_refusal, stream_ended, state_refusal, lent_refusal, own_refusal, step_refusal, step_ram, effect_of, step_effect, effect_ram}
+use Rattle.step_rules.specs.Answers.{boot_fits, length_refusal, kind_refusal, stream_ended, state_refusal, lent_refusal, own_refusal, step_refusal, step_outcome, nmi_line, nmi_shown, accepted_answer, refused_answer, step_answer, step_ram, told, step_effect, effect_ram, answer_of}
 use Rattle.step_rules.proofs.ByKind.{on_key_lem, on_in_lem, on_out_lem}
 
 -- what record and buffers that are found good tell
@@ -53,9 +54,15 @@ own_known b n s =
     (on_in_lem P s (λ port. cond_kept P (decoded_in port) refl refl) (on_out_lem P s (λ port value. cond_kept P (decoded_out port) refl refl) refl)) in
     rw (first_two (kind_refusal s) (cond (stream_ended b n s) 4 0)) (cond_kept P (eqb (kind_refusal s) 0) (cond_kept P (stream_ended b n s) refl refl) own)
 
+-- where no NMI stands, the lines that are shown and the record are those of a refusal
+answer_refused : (b : Board) (n : ℕ) → (eqb b.disc.route 1 && eqb b.disc.line 1) ≡ false → eqb n 1 ≡ false → eqb n 0 ≡ false
+    → answer_of (record { board = b; outcome = Err (named n) }) ≡ told (refused_answer b n)
+unfolding answer_of refused_answer nmi_shown nmi_line answered
+answer_refused b n e f g = rw (e, f, g)
+
 module _ (b : Board) (ram boot : List ℕ) (s : Step) where
   -- the refusals of the kind itself
-  pub own_accepted : own_refusal b (length boot) s ≡ 0 → Ok (effect_of b ram boot s) ≡ step_effect b ram boot s
+  pub own_accepted : own_refusal b (length boot) s ≡ 0 → record { board = board_after b ram s; outcome = Ok (step_outcome b ram boot s) } ≡ step_effect b ram boot s
   unfolding step_effect answered
   own_accepted e = rw e
 
@@ -63,7 +70,7 @@ module _ (b : Board) (ram boot : List ℕ) (s : Step) where
   unfolding effect_ram
   own_ram e = rw e
 
-  pub own_refused : (n : ℕ) → own_refusal b (length boot) s ≡ n → (n ≡ 0 → ⊥) → Err (named n) ≡ step_effect b ram boot s
+  pub own_refused : (n : ℕ) → own_refusal b (length boot) s ≡ n → (n ≡ 0 → ⊥) → record { board = b; outcome = Err (named n) } ≡ step_effect b ram boot s
   unfolding step_effect answered
   own_refused n e ne = rw (e, ne_eqb n 0 ne)
 
@@ -84,6 +91,22 @@ module _ (b : Board) (ram boot : List ℕ) (s : Step) where
   pub step_own : lent_refusal b (length ram) (length boot) ≡ 0 → step_refusal b ram boot s ≡ own_refusal b (length boot) s
   unfolding step_refusal
   step_own e = first_second _ (own_refusal b (length boot) s) e
+
+  pub step_answered : lent_refusal b (length ram) (length boot) ≡ 0 → answer_of (step_effect b ram boot s) ≡ told (step_answer b ram boot s)
+  unfolding step_effect step_answer accepted_answer answer_of answered
+  step_answered e =
+      let n = own_refusal b (length boot) s in
+      rw (step_own e)
+      (go (eqb n 0) (λ g. answer_refused b n (good_nmi b (lent_good b (length ram) (length boot) e)) (own_known b (length boot) s) g) refl)
+    where
+      go : (t : Bool)
+          → (eqb (own_refusal b (length boot) s) 0 ≡ false
+          → answer_of (record { board = b; outcome = Err (named (own_refusal b (length boot) s)) }) ≡ told (refused_answer b (own_refusal b (length boot) s)))
+          → eqb (own_refusal b (length boot) s) 0 ≡ t
+          → answer_of (record { board = cond t (board_after b ram s) b; outcome = cond t (Ok (step_outcome b ram boot s)) (Err (named (own_refusal b (length boot) s))) })
+          ≡ told (cond t (accepted_answer (board_after b ram s) (step_outcome b ram boot s)) (refused_answer b (own_refusal b (length boot) s)))
+      go true r f = refl
+      go false r f = r f
 
   pub step_own_ram : lent_refusal b (length ram) (length boot) ≡ 0 → effect_ram b ram boot s ≡ step_ram b ram boot s
   unfolding effect_ram step_ram

@@ -36,13 +36,13 @@ told_ok r o e = go (eqb r.refusal 0) refl e
     go false f h = absurd (cc)
 
 -- each number that a step is refused with names its refusal
-Known : ℕ → Type 0
+abbrev pub Known : ℕ → Type 0
 Known n = (n ≡ 0 → ⊥) → number (named n) ≡ n
 
 module _ (b : Board) (ram boot : List ℕ) (s : Step) where
-  known : Known (step_refusal b ram boot s)
-  unfolding Known number named step_refusal lent_refusal own_refusal record_refusal length_refusal state_refusal kind_refusal
-  known =
+  pub step_known : Known (step_refusal b ram boot s)
+  unfolding number named step_refusal lent_refusal own_refusal record_refusal length_refusal state_refusal kind_refusal
+  step_known =
       let none : Known 0 = λ ne. absurd (ne refl) in
       let one : Known 1 = λ ne. refl in
       let two : Known 2 = λ ne. refl in
@@ -64,7 +64,7 @@ module _ (b : Board) (ram boot : List ℕ) (s : Step) where
   -- a refused step's number is its refusal's, and it has no byte and is not forwarded
   pub step_err : (e : Refusal) → (told_reply (step_answer b ram boot s).reply).outcome ≡ Err e
       → ((step_answer b ram boot s).reply.refusal ≡ number e) × (((step_answer b ram boot s).reply.byte ≡ 0) × ((step_answer b ram boot s).reply.forwarded ≡ false))
-  unfolding step_answer accepted_answer refused_answer answered Known
+  unfolding step_answer accepted_answer refused_answer answered
   step_err e = go (eqb (step_refusal b ram boot s) 0) refl
     where
       go : (t : Bool) → eqb (step_refusal b ram boot s) 0 ≡ t
@@ -75,7 +75,7 @@ module _ (b : Board) (ram boot : List ℕ) (s : Step) where
           let ne = eqb-false (step_refusal b ram boot s) 0 f in
           let err : ◌≡◌ {A = Result Outcome Refusal} (Err (named (step_refusal b ram boot s))) (Err e) = rw f at h in
           let k : named (step_refusal b ram boot s) ≡ e = cc in
-          (sym (known ne) ∙ ap number k, (refl, refl))
+          (sym (step_known ne) ∙ ap number k, (refl, refl))
 
 -- the same of a step by its numbers
 pub numbers_err : (b : Board) (ram boot : List ℕ) (d : Option Step) (e : Refusal) → (told_reply (numbers_answer b ram boot d).reply).outcome ≡ Err e

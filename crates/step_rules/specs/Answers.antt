@@ -1,6 +1,5 @@
 -- What a step answers, and when it is refused: document 01, "Steps" and "Refusal numbers".
-use Rattle.std.specs.Prelude.{ℕ, Bool, false, cond, not, ◌&&◌, ◌||◌, List, [], ◌∷◌, eqb, leb, get_or, length, Result}
-use Rattle.refusal.specs.declared.Refusal.{Refusal}
+use Rattle.std.specs.Prelude.{ℕ, Bool, false, cond, not, ◌&&◌, ◌||◌, List, [], ◌∷◌, eqb, leb, get_or, length}
 use Rattle.refusal.specs.Numbers.{answered}
 use Rattle.paging.specs.declared.Sizes.{Sizes}
 use Rattle.paging.specs.Maps.{ram_fits}
@@ -135,13 +134,16 @@ told_reply r = record { outcome = answered r.refusal (record { byte = r.byte; fo
 abbrev pub told : Answer → declared_answer.Answer
 told a = record { board = a.board; reply = told_reply a.reply }
 
--- what an accepted step does before the lines are looked at
-abbrev pub effect_of : Board → List ℕ → List ℕ → Step → Effect
-effect_of b ram boot s = record { board = board_after b ram s; outcome = step_outcome b ram boot s }
-
--- once record and buffers are found good
-unfoldable pub step_effect : Board → List ℕ → List ℕ → Step → Result Effect Refusal
-step_effect b ram boot s = answered (own_refusal b (length boot) s) (effect_of b ram boot s)
+-- what a kind does once record and buffers are found good, before the lines are looked at; refused, it leaves the record
+unfoldable pub step_effect : Board → List ℕ → List ℕ → Step → Effect
+step_effect b ram boot s = record {
+  board = cond (eqb (own_refusal b (length boot) s) 0) (board_after b ram s) b;
+  outcome = answered (own_refusal b (length boot) s) (step_outcome b ram boot s);
+}
 
 unfoldable pub effect_ram : Board → List ℕ → List ℕ → Step → List ℕ
 effect_ram b ram boot s = cond (eqb (own_refusal b (length boot) s) 0) (ram_after b.sizes b.paging ram s) ram
+
+-- the lines of the record, shown for a refusal too: a good one's NMI is off (`step_own`)
+unfoldable pub answer_of : Effect → declared_answer.Answer
+answer_of e = record { board = nmi_shown e.board; reply = record { outcome = e.outcome; int = int_line e.board; nmi = nmi_line e.board } }

@@ -43,9 +43,10 @@ pub struct Answer {
     pub reply: Reply,
 }
 
-// What an accepted step does before the lines are looked at: the record as it leaves it, and its outcome.
+// What a kind does before the lines are looked at: the record as it leaves it, and its outcome; or its refusal, with the record
+// given.
 #[derive(Clone, Copy)]
 pub struct Effect {
     pub board: Board,
-    pub outcome: Outcome,
+    pub outcome: Result<Outcome, Refusal>,
 }
