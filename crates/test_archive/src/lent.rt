@@ -1,4 +1,5 @@
-// Memory of which the first bytes are lent to a call; those behind stay as they are.
+// Memory of which the first bytes are lent to a call; those behind stay as they are, so a shorter Vec would not do. (No part of an array
+// whose length is a parameter can be lent for writing: the borrow checker does not cover it.)
 use std::alloc::{AllocError, Global};
 
 #[derive(Drop)]

@@ -18,6 +18,7 @@ pub(crate) struct Machine<'a> {
 }
 
 // One field set to any number; a name that no field has sets the dirty lines from 192 on.
+// Each number is another place of the record, so a match is the plainest.
 fn set_field(b: &mut Board, name: u8, n: u16) {
     let [low, _] = n.to_le_bytes();
     match name {
