@@ -1,7 +1,7 @@
 // Indexes of the RAM, what stands there, and the lines that a store there touches.
 use crate::sets::counted;
 use paging::{Paging, Sizes, byte_at, keyboard_index};
-use scanline::{entry_index, pointer_word};
+use scanline::Video;
 use scanline_touch::touched;
 use std::io;
 
@@ -18,6 +18,14 @@ fn reach(rt: &impl Print, internal: u8, total: u8, address: u16) -> io::Result<(
     println!(rt; "address {address:04x}: read {read:06x} write {write:06x}")
 }
 
+fn video(table: u8, top: u8) -> Video {
+    Video {
+        table,
+        top,
+        control: 0,
+    }
+}
+
 pub(crate) fn indexes(rt: &impl Print) -> io::Result<()> {
     reach(rt, 8, 8, 0x0005)?;
     reach(rt, 8, 8, 0x7fff)?;
@@ -31,10 +39,13 @@ pub(crate) fn indexes(rt: &impl Print) -> io::Result<()> {
     )?;
     print!(rt;
         "entry of line 1, F6 = 255: {:06x}",
-        entry_index(0x99, 255, 1)
+        video(0x99, 255).entry_index(1)
     )?;
-    print!(rt; " F6 = 254: {:06x}", entry_index(0x99, 254, 1))?;
-    println!(rt; " line 255, F6 = 0: {:06x}", entry_index(0xff, 0, 255))
+    print!(rt; " F6 = 254: {:06x}", video(0x99, 254).entry_index(1))?;
+    println!(rt;
+        " line 255, F6 = 0: {:06x}",
+        video(0xff, 0).entry_index(255)
+    )
 }
 
 fn bytes(rt: &impl Print, ram: &[u8]) -> io::Result<()> {
@@ -44,21 +55,25 @@ fn bytes(rt: &impl Print, ram: &[u8]) -> io::Result<()> {
         byte_at(ram, 1023)
     )?;
     println!(rt; " past the end {:02x}", byte_at(ram, 1024))?;
-    print!(rt; "line 0 {:04x}", pointer_word(ram, 0, 0, 0))?;
-    print!(rt; " line 1 {:04x}", pointer_word(ram, 0, 0, 1))?;
-    print!(rt; " from top line 255 {:04x}", pointer_word(ram, 0, 255, 1))?;
-    println!(rt; " past the end {:04x}", pointer_word(ram, 2, 0, 0))
+    print!(rt; "line 0 {:04x}", video(0, 0).pointer_word(ram, 0))?;
+    print!(rt; " line 1 {:04x}", video(0, 0).pointer_word(ram, 1))?;
+    print!(rt;
+        " from top line 255 {:04x}",
+        video(0, 255).pointer_word(ram, 1)
+    )?;
+    println!(rt; " past the end {:04x}", video(2, 0).pointer_word(ram, 0))
 }
 
 fn touches(rt: &impl Print, ram: &[u8]) -> io::Result<()> {
-    counted(rt, "000000", touched(ram, 0, 0, 0))?;
-    counted(rt, "000001", touched(ram, 0, 0, 1))?;
-    counted(rt, "000002, from top line 2", touched(ram, 0, 2, 2))?;
-    counted(rt, "000008", touched(ram, 0, 0, 8))?;
-    counted(rt, "000401", touched(ram, 0, 0, 0x401))?;
-    counted(rt, "0006c9", touched(ram, 0, 0, 0x6c9))?;
-    counted(rt, "004000", touched(ram, 0, 0, 0x4000))?;
-    counted(rt, "020000", touched(ram, 0, 0, 0x20000))
+    let first = video(0, 0);
+    counted(rt, "000000", touched(ram, first, 0))?;
+    counted(rt, "000001", touched(ram, first, 1))?;
+    counted(rt, "000002, from top line 2", touched(ram, video(0, 2), 2))?;
+    counted(rt, "000008", touched(ram, first, 8))?;
+    counted(rt, "000401", touched(ram, first, 0x401))?;
+    counted(rt, "0006c9", touched(ram, first, 0x6c9))?;
+    counted(rt, "004000", touched(ram, first, 0x4000))?;
+    counted(rt, "020000", touched(ram, first, 0x20000))
 }
 
 // A table at block 0: line 0 has the word 0201h, line 255 of the second table 9897h.

@@ -1,30 +1,17 @@
-// Lines of a picture, printed pixel by pixel.
-use std::io;
+// Lines of a picture, pixel by pixel.
+use std::fmt;
 
-// A lit pixel and a dark one.
-fn mark(pixel: u8) -> u8 {
-    if pixel % 2 == 1 { b'#' } else { b'.' }
-}
+// The bytes of one line, the leftmost pixel of each in its top bit: a lit pixel is `#`, a dark one `.`.
+#[derive(Clone, Copy)]
+pub(crate) struct Pixels<'a>(pub &'a [u8]);
 
-// The eight pixels of a byte, the leftmost in its top bit.
-fn print_byte(rt: &impl Print, byte: u8) -> io::Result<()> {
-    let eight = [
-        mark(byte / 128),
-        mark(byte / 64),
-        mark(byte / 32),
-        mark(byte / 16),
-        mark(byte / 8),
-        mark(byte / 4),
-        mark(byte / 2),
-        mark(byte),
-    ];
-    rt.write_all(&eight)
-}
-
-pub(crate) fn print_line(rt: &impl Print, picture: &[u8], line: u8) -> io::Result<()> {
-    let first = line as usize * 90;
-    for i in 0..90 {
-        print_byte(rt, paging::byte_at(picture, first + i))?;
+impl fmt::Display for Pixels<'_> {
+    fn fmt<W: fmt::Write>(&self, f: &mut fmt::Formatter<W>) -> fmt::Result {
+        for byte in self.0 {
+            for bit in (0..8u32).rev() {
+                f.write_char(if byte >> bit & 1 == 1 { '#' } else { '.' })?;
+            }
+        }
+        Ok(())
     }
-    rt.write_all(b"\n")
 }

@@ -2,30 +2,23 @@
 // stdout were both made from documents 01 and 02.
 #![tactic(auto)]
 
-mod groups;
-mod record;
+mod group;
+mod machine;
 
-ghost use Rattle.std.specs.Prelude.{◌≡◌, length};
-
-use groups::State;
-use reading::read_full;
+use crate::group::Group;
+use crate::machine::Machine;
 use std::io;
-
-// 18 blocks of zeros and a byte. Lending the array as a slice needs its length.
-fn memory() -> [u8; 294913]
-    ensures { 294913 ≡ length result }
-{
-    [0; 294913]
-}
+use std::io::Read;
 
 fn main(rt: HostRuntime) -> io::Result<()> {
-    let mut input = [0u8; 65536];
-    let got = read_full(&mut rt.reader(), &mut input)?;
-    let mut ram = memory();
-    let s = State {
-        board: record::power(&rt, 0, 0, 0)?,
-        ram: 0,
-        boot: 0,
-    };
-    groups::run(&rt, s, &input[..got], &mut ram)
+    let alloc = rt.alloc();
+    let mut list = Vec::new(alloc);
+    rt.reader().read_to_end(&mut list)?;
+    // 18 blocks of zeros and a byte.
+    let memory = vec![in alloc; 0u8; 294913]?;
+    let mut machine = Machine::new(&rt, memory, &list)?;
+    for &group in list.as_chunks::<4>().0 {
+        machine.take(&rt, Group::from(group))?;
+    }
+    Ok(())
 }
