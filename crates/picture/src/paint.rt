@@ -22,7 +22,7 @@ impl View<'_> {
     {
         let video = self.video;
         let ram = self.ram;
-        let p = scanline::read_pointer(scanline::pointer_word(ram, video.table, video.top, line));
+        let p = scanline::read_pointer(video.pointer_word(ram, line));
         let first = line as usize * 90;
         let bytes = &mut picture[first..first + 90];
         for (i, byte) in bytes.iter_mut().enumerate() {
