@@ -1,19 +1,18 @@
 -- What count, entry and find answer, rung by rung.
 -- Assumes nothing.
 use Prim.Native.Nat.{ℕ, ◌+◌, ◌*◌, ◌≤◌, ◌<◌}
-use native.Mathlib.Nat.{zero-add}
 use native.Mathlib.Omega.{arith}
-use mathlib.Core.Path.{◌≡◌, refl, sym, ap, ◌∙◌}
-use mathlib.Core.Bool.{Bool, true, false, cond, not}
+use mathlib.Core.Path.{◌≡◌, refl, sym, ◌∙◌}
+use mathlib.Core.Bool.{Bool, true, false, cond}
 use mathlib.Core.List.{List}
-use borrow.Author.Tests.{eqb-true, ltb-true, lt-ltb, le-ltb, le-leb, lt-leb, not-true, not-false}
+use borrow.Author.Tests.{eqb-true, ltb-true, le-leb}
 use lib.Dec.{eqb, ltb}
 use lib.ListN.{length}
 use Rattle.archive.specs.declared.numbers.Entry.{Entry}
 use Rattle.std.specs.Prelude.{Some, None}
 use Rattle.facts.specs.Tests.{first_of}
 use Rattle.facts.proofs.Searches as searches
-use Rattle.archive.specs.Sound.{count_of, entry_of, frame_at, good_bench, good_shown, has_pair, sound}
+use Rattle.archive.specs.Sound.{count_of, entry_of, frame_at, has_pair, sound}
 use Rattle.archive.specs.Answers.{Found, EntryRead, no_entry, entry_at, entry_refusal, entry_answer, find_answer}
 
 module _ (a : List ℕ) (k : ℕ) where

@@ -2,12 +2,12 @@
 -- Assumes nothing.
 use Prim.Native.Nat.{ℕ, zero, suc, ◌+◌, ◌≤◌, ◌<◌}
 use native.Mathlib.Omega.{arith}
-use mathlib.Core.Path.{◌≡◌, refl, sym, ap, ◌∙◌}
+use mathlib.Core.Path.{◌≡◌, refl, sym, ap}
 use mathlib.Core.Bool.{Bool, true, false, not, cond}
 use borrow.Author.Tests.{eqb-true, eqb-false}
 use lib.Dec.{eqb}
 use Rattle.std.specs.Prelude.{Option, Some, None, is_none, MatchOption}
-use Rattle.facts.specs.Tests.{every, first_of}
+use Rattle.facts.specs.Tests.{first_of}
 use Rattle.facts.proofs.Tests.{below_agree}
 use Rattle.facts.proofs.Searches.{first_nothing}
 use Rattle.archive.specs.Format.{Frame}

@@ -18,9 +18,8 @@ use Rattle.facts.proofs.Bools.{both}
 use Rattle.archive.specs.declared.numbers.Entry.{Entry}
 use Rattle.archive.specs.declared.numbers.Header.{Header}
 use Rattle.archive.specs.Format.{picture_offset}
-use Rattle.archive.specs.Sound.{header_good, header_of, header_sound, sound, entry_of, entry_good, entry_sound, good_bench, good_shown, rest_zero, count_of, is_zero, fresh, frame_at}
+use Rattle.archive.specs.Sound.{header_good, header_of, header_sound, entry_of, entry_good, entry_sound, good_bench, good_shown, rest_zero, count_of, is_zero, fresh, frame_at}
 use Rattle.facts.proofs.Tests.{every_both, below_agree}
-use Rattle.archive.proofs.Read.{HeaderIs, header_is}
 use Rattle.archive.proofs.Written.{shown_most}
 
 -- `cmp` answers as `<` and `==` do

@@ -1,11 +1,11 @@
 -- What an add that is taken tells of what it was given.
 -- Assumes nothing.
-use Prim.Native.Nat.{ℕ, ◌+◌, ◌-◌, ◌*◌, ◌/◌, ◌≤◌, ◌<◌}
+use Prim.Native.Nat.{ℕ, ◌+◌, ◌*◌, ◌≤◌, ◌<◌}
 use native.Mathlib.Omega.{arith}
-use mathlib.Core.Path.{◌≡◌, refl, sym, ◌∙◌}
+use mathlib.Core.Path.{◌≡◌, refl}
 use mathlib.Core.Bool.{Bool, true, false, not, cond, ◌&&◌}
-use mathlib.Core.List.{List, [], ◌∷◌, ◌++◌, append-nil}
-use borrow.Author.Tests.{eqb-true, eq-eqb, ne_eqb, ltb-true, leb-true, le-leb, lt-leb, not-true, not-false}
+use mathlib.Core.List.{List, [], append-nil}
+use borrow.Author.Tests.{eqb-true, ltb-true, leb-true, le-leb}
 use lib.Dec.{eqb, ltb, leb}
 use lib.ListN.{length}
 use Rattle.std.specs.Prelude.{Option, None, Some, is_none, is_some, Result, Ok}
@@ -15,10 +15,10 @@ use Rattle.facts.specs.Lists.{in_room}
 use Rattle.facts.proofs.Bools.{both}
 use Rattle.byte_rows.specs.Rows.{rows}
 use Rattle.archive.specs.Format.{header, written, archive_of}
-use Rattle.archive.specs.Sound.{count_of, sound, frames_of, good_bench, good_shown, is_new, frame_at}
+use Rattle.archive.specs.Sound.{count_of, sound, good_bench, good_shown, is_new, frame_at}
 use Rattle.archive.specs.Answers.{good_fields}
 use Rattle.archive.proofs.Read.{sound_is}
-use Rattle.archive_add.specs.Adding.{length_or, start_refusal, start_room, frame_of, next_length, room_for, add_refusal, add_room}
+use Rattle.archive_add.specs.Adding.{start_refusal, start_room, next_length, room_for, add_refusal}
 
 -- the archive of no frames
 pub empty_is : archive_of [] ≡ header 0

@@ -5,7 +5,6 @@ use native.Mathlib.Nat.{add-zero}
 use native.Mathlib.Numerals.{add-one}
 use native.Mathlib.Omega.{arith}
 use mathlib.Core.Path.{◌≡◌, refl, sym, ap, ◌∙◌}
-use mathlib.Core.Bool.{true}
 use mathlib.Core.List.{List, [], ◌∷◌, ◌++◌, append_assoc, append-nil}
 use lib.ListN.{length, get_or, take, drop, replicate, length-append, length-drop, take-append-drop, get_or-append}
 use lib.Seq.{length-take-le, get_or_at, take_all, drop-drop}
@@ -13,12 +12,12 @@ use Rattle.facts.specs.Lists.{in_room}
 use Rattle.byte_rows.specs.Rows.{put, zeros, rows}
 use Rattle.byte_rows.proofs.Rows.{rest_all, rows_length, put_put, put_length, room_put_at, rows_same, rows_take, zeros_length}
 use Rattle.archive.specs.Format.{Frame, no_frame, frame_in, archive_of, written, shown_of, entry_row, picture_row, entry, header, picture_offset}
-use Rattle.archive.specs.Sound.{sound, frames_of, frame_at, count_of, entry_of, bench_at, number_at, shown_at}
+use Rattle.archive.specs.Sound.{frames_of, frame_at, count_of, entry_of, bench_at, number_at, shown_at}
 use Rattle.byte_rows.specs.Numbers.{number4}
 use Rattle.archive_add.specs.Adding.{frame_of}
 use Rattle.archive_add.specs.Next.{moved_row, next_entries, padded, numbers4}
 use Rattle.archive.specs.declared.numbers.Entry.{Entry}
-use Rattle.archive.proofs.Read.{SoundIs, sound_is, frames_count, frames_at, picture_at, shown_is}
+use Rattle.archive.proofs.Read.{SoundIs, frames_count, frames_at, picture_at, shown_is}
 use Rattle.archive.proofs.Written.{entry_length, header_length}
 
 -- ---- parts of lent room that are written on

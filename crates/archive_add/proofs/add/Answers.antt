@@ -1,4 +1,3 @@
-use Rattle.std.proofs.Common.{◌∙◌, sym, arith}
 use Rattle.archive.proofs.Written.{shown_most}
 use Rattle.archive_add.proofs.Adding.{add_taken, add_length}
 use Rattle.archive_add.proofs.add.Goals as goal

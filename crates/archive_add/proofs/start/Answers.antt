@@ -1,4 +1,4 @@
-use Rattle.std.proofs.Common.{◌∙◌, arith}
+use Rattle.std.proofs.Common.{arith}
 use Rattle.archive_add.proofs.Adding.{start_done}
 use Rattle.archive_add.proofs.start.Goals as goal
 

@@ -1,4 +1,3 @@
-use Rattle.std.proofs.Common.{arith}
 use Rattle.archive_add.proofs.PutDown.{picture_put}
 use Rattle.archive_add.proofs.next.put_picture.Goals as goal
 
