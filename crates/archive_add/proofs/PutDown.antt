@@ -9,8 +9,9 @@ use mathlib.Core.List.{List, [], ◌∷◌, ◌++◌, append_assoc, append-nil}
 use lib.ListN.{length, get_or, take, drop, replicate, length-append, length-drop, take-append-drop, get_or-append}
 use lib.Seq.{length-take-le, get_or_at, take_all, drop-drop}
 use Rattle.facts.specs.Lists.{in_room}
-use Rattle.byte_rows.specs.Rows.{put, zeros, rows}
-use Rattle.byte_rows.proofs.Rows.{rest_all, rows_length, put_put, put_length, room_put_at, rows_same, rows_take, zeros_length}
+use Rattle.facts.proofs.Rooms.{room_length}
+use Rattle.byte_rows.specs.Rows.{put, copied, zeros, rows}
+use Rattle.byte_rows.proofs.Rows.{copied_fits, rest_all, rows_length, put_put, put_length, room_put_at, rows_same, rows_take, zeros_length}
 use Rattle.archive.specs.Format.{Frame, no_frame, frame_in, archive_of, written, shown_of, entry_row, picture_row, entry, header, picture_offset}
 use Rattle.archive.specs.Sound.{frames_of, frame_at, count_of, entry_of, bench_at, number_at, shown_at}
 use Rattle.byte_rows.specs.Numbers.{number4}
