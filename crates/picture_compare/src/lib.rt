@@ -24,11 +24,16 @@ fn unequal_pixel(x: u8, y: u8) -> u16
     (x ^ y).leading_zeros() as u16
 }
 
-// Whether two rows are the same: `==` takes many bytes a turn.
-fn same(a: &[u8], b: &[u8]) -> bool
-    requires { length a.now ≡ length b.now }
+// Whether eight lines are the same. As arrays they are compared in place, many bytes a turn; as slices it is a call, and longer.
+fn same_lines(a: &[u8], b: &[u8]) -> bool
     ensures { result ≡ true → a.now ≡ b.now }
 {
+    let Some(a) = a.as_array::<720>() else {
+        return false;
+    };
+    let Some(b) = b.as_array::<720>() else {
+        return false;
+    };
     a == b
 }
 
@@ -47,7 +52,7 @@ fn unequal_position(a: &[u8; 23040], b: &[u8; 23040]) -> Option<Position>
         if line % 8 == 0 {
             let first = line * 90;
             let end = first + 720;
-            if same(&a[first..end], &b[first..end]) {
+            if same_lines(&a[first..end], &b[first..end]) {
                 line += 8;
                 continue;
             }
