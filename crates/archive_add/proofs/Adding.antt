@@ -1,6 +1,6 @@
 -- What an add that is taken tells of what it was given.
 -- Assumes nothing.
-use Prim.Native.Nat.{ℕ, ◌+◌, ◌*◌, ◌≤◌, ◌<◌}
+use Prim.Native.Nat.{ℕ, ◌+◌, ◌-◌, ◌*◌, ◌/◌, ◌≤◌, ◌<◌}
 use native.Mathlib.Omega.{arith}
 use mathlib.Core.Path.{◌≡◌, refl}
 use mathlib.Core.Bool.{Bool, true, false, not, cond, ◌&&◌}
@@ -17,8 +17,12 @@ use Rattle.byte_rows.specs.Rows.{rows}
 use Rattle.archive.specs.Format.{header, written, archive_of}
 use Rattle.archive.specs.Sound.{count_of, sound, good_bench, good_shown, is_new, frame_at}
 use Rattle.archive.specs.Answers.{good_fields}
-use Rattle.archive.proofs.Read.{sound_is}
+use Rattle.archive.proofs.Read.{SoundIs, sound_is}
 use Rattle.archive_add.specs.Adding.{start_refusal, start_room, next_length, room_for, add_refusal}
+
+-- the number of frames of a sound archive is told by its length
+pub count_by_length : (a : List ℕ) → SoundIs a → (length a - 20) / 23056 ≡ count_of a
+count_by_length a s = omega (arith, s.head.size)
 
 -- the archive of no frames
 pub empty_is : archive_of [] ≡ header 0

@@ -84,16 +84,27 @@ told_err {A} n x q r e d = go (eqb n 0) refl (sym d ∙ e)
     go true f h = absurd (cc)
     go false f h = (eqb-false n 0 f, cc)
 
--- refused: the picture stays
+-- refused: the picture and the record stay
+module _ (b : Board) (ram picture : List ℕ) (r : ℕ) (e : r ≡ picture_refusal b (length ram) (length picture)) where
+  pub draw_refused : (r ≡ 0 → ⊥) → (record { floating = false; refusal = r } ≡ draw_answer b ram picture) × (picture ≡ draw_picture b ram picture)
+  unfolding draw_answer draw_picture
+  draw_refused ne = rw (← e, ne_eqb r 0 ne) (refl, refl)
+
+  pub refresh_refused : (r ≡ 0 → ⊥)
+      → (record { board = b; count = 0; floating = false; refusal = r } ≡ refresh_answer b ram picture) × (picture ≡ refresh_picture b ram picture)
+  unfolding refresh_answer refresh_picture
+  refresh_refused ne = rw (← e, ne_eqb r 0 ne) (refl, refl)
+
+-- the same as the code has it
 module _ (b : Board) (ram picture : List ℕ) (q : Refusal) (ne : picture_refusal b (length ram) (length picture) ≡ 0 → ⊥)
     (e : q ≡ named (picture_refusal b (length ram) (length picture))) where
-  pub draw_refused : Err q ≡ draw_result (draw_answer b ram picture)
+  pub draw_err : Err q ≡ draw_result (draw_answer b ram picture)
   unfolding draw_answer answered
-  draw_refused = rw (ne_eqb (picture_refusal b (length ram) (length picture)) 0 ne, e)
+  draw_err = rw (ne_eqb (picture_refusal b (length ram) (length picture)) 0 ne, e)
 
-  pub refresh_refused : Err q ≡ refresh_result (refresh_answer b ram picture)
+  pub refresh_err : Err q ≡ refresh_result (refresh_answer b ram picture)
   unfolding refresh_answer answered
-  refresh_refused = rw (ne_eqb (picture_refusal b (length ram) (length picture)) 0 ne) (rw (ne_eqb (picture_refusal b (length ram) (length picture)) 0 ne, e))
+  refresh_err = rw (ne_eqb (picture_refusal b (length ram) (length picture)) 0 ne) (rw (ne_eqb (picture_refusal b (length ram) (length picture)) 0 ne, e))
 
 module _ (b : Board) (ram picture : List ℕ) (ne : picture_refusal b (length ram) (length picture) ≡ 0 → ⊥) where
   pub draw_stays : picture ≡ draw_picture b ram picture

@@ -1,13 +1,13 @@
 use Rattle.std.proofs.Common.{◌≡◌, length, ◌∙◌, rules}
 use Rattle.std.specs.Prelude.{Err}
-use Rattle.picture.proofs.Answers.{lent_err, lent_enough, size_wrong, size_right, draw_refused, draw_stays, draw_accepted, draw_drawn}
+use Rattle.picture.proofs.Answers.{lent_err, lent_enough, size_wrong, size_right, draw_err, draw_stays, draw_accepted, draw_drawn}
 use Rattle.picture.proofs.draw.Goals as goal
 
 pub returns-in_err-check_lent-clause-answer : goal.returns-in_err-check_lent-clause-answer
 returns-in_err-check_lent-clause-answer c =
     let k : c.from_residual.result ≡ Err c.in_err-check_lent.field-0.0 = search rules in
     let e = lent_err c.args.b (length c.args.ram.now) (length c.args.picture.now) _ c.check_lent.ensures _ c.in_err-check_lent.was in
-    k ∙ draw_refused _ _ _ _ e.0 e.1
+    k ∙ draw_err _ _ _ _ e.0 e.1
 
 pub returns-in_err-check_lent-clause-drawn : goal.returns-in_err-check_lent-clause-drawn
 returns-in_err-check_lent-clause-drawn c =
@@ -16,7 +16,7 @@ returns-in_err-check_lent-clause-drawn c =
 pub returns-in_default-clause-answer : goal.returns-in_default-clause-answer
 returns-in_default-clause-answer c =
     let e = size_wrong c.args.b (length c.args.ram.now) (length c.args.picture.now) _ c.check_lent.ensures c.in_ok-check_lent.was c.in_default.ensures.cases in
-    draw_refused _ _ _ _ e.0 e.1
+    draw_err _ _ _ _ e.0 e.1
 
 pub returns-in_default-clause-drawn : goal.returns-in_default-clause-drawn
 returns-in_default-clause-drawn c =
