@@ -5,7 +5,7 @@ ghost use Rattle.board.specs.Record.{view_of, with_clock, with_dirty};
 ghost use Rattle.board.specs.Registers.{written};
 ghost use Rattle.board.specs.Dirty.{dirty_after, with_marks};
 
-use crate::record::{Board, Boot, Clock, Disc};
+use crate::record::Board;
 use scanline::Video;
 
 impl Board {
@@ -19,31 +19,22 @@ impl Board {
         }
     }
 
-    // Command 1: as at power-on, but sizes, rate, maps, lock, F5, F6, beam, lines and dirty lines stay.
+    // Command 1: as at power-on, but sizes, rate, maps, lock, F5, F6, beam, lines and dirty lines stay. (By struct update a port out took
+    // 4 % more instructions.)
     #[tactic(auto, unfolding(crate::specs::Registers::written, crate::specs::Registers::paging_out, crate::specs::Registers::video_out, crate::specs::Registers::control_commanded, crate::specs::Registers::clock_commanded, crate::specs::Registers::boot_commanded, crate::specs::Registers::disc_commanded, crate::specs::Registers::driven_commanded, crate::specs::Registers::bleeper_commanded))]
-    fn reset(self) -> Board
+    fn reset(mut self) -> Board
         ensures { result ≡ written self 0xF8 1 }
     {
-        Board {
-            video: Video {
-                control: 0,
-                ..self.video
-            },
-            clock: Clock {
-                counter: 0,
-                ..self.clock
-            },
-            boot: Boot { mode: 1, at: 0 },
-            disc: Disc {
-                route: 0,
-                terminal_count: 1,
-                motor: 0,
-                ..self.disc
-            },
-            driven: 1,
-            bleeper: 0,
-            ..self
-        }
+        self.video.control = 0;
+        self.clock.counter = 0;
+        self.boot.mode = 1;
+        self.boot.at = 0;
+        self.disc.route = 0;
+        self.disc.terminal_count = 1;
+        self.disc.motor = 0;
+        self.driven = 1;
+        self.bleeper = 0;
+        self
     }
 
     // A command of F8, 0 to 15. Document 01 has single cases of its number: "F8 commands 0 to 15 likewise".
@@ -54,7 +45,7 @@ impl Board {
     {
         match number {
             0 => self.boot.mode = 0,
-            1 => return self.reset(),
+            1 => self = self.reset(),
             2 => self.disc.route = 1,
             3 => self.disc.route = 2,
             4 => self.disc.route = 0,
@@ -78,12 +69,17 @@ impl Board {
         ensures { result ≡ written self port value }
     {
         match port {
-            0xf0..=0xf3 => self.paging.maps[(port - 0xf0) as usize] = value,
+            // (in a copy: a number for an index into the record itself keeps the whole record in memory, and all steps slower)
+            0xf0..=0xf3 => {
+                let mut maps = self.paging.maps;
+                maps[(port - 0xf0) as usize] = value;
+                self.paging.maps = maps;
+            }
             0xf4 => self.paging.lock = value,
             0xf5 => self.video.table = value,
             0xf6 => self.video.top = value,
             0xf7 => self.video.control = value,
-            0xf8 => return self.command(value % 16),
+            0xf8 => self = self.command(value % 16),
             _ => {}
         }
         self
