@@ -15,11 +15,7 @@ use scanline_touch::touched;
 fn is_unmarked(ram: &[u8], at: usize, value: u8) -> bool
     ensures { result ≡ (leb 131072 at || eqb (get_or ram.now at 0) value) }
 {
-    if at >= 131072 {
-        return true;
-    }
-    let old = byte_at(ram, at);
-    old == value
+    at >= 131072 || byte_at(ram, at) == value
 }
 
 impl Board {
@@ -27,10 +23,11 @@ impl Board {
     fn mark(self, lines: LineSet) -> Board
         ensures { (ram : List ℕ) (at x : ℕ) → at < length ram → (get_or ram at 0 ≡ x → ⊥) → lines ≡ set_of (touches ram self.video.table self.video.top at) → result ≡ with_marks self ram self (set ram at x) }
     {
-        let dirty = self.dirty;
-        let mut b = self;
-        b.dirty = dirty.union(lines.intersection(LineSet::shown(self.rate)));
-        b
+        let shown = lines.intersection(LineSet::shown(self.rate));
+        Board {
+            dirty: self.dirty.union(shown),
+            ..self
+        }
     }
 
     // A byte to be stored at an index of the RAM, with the lines that it makes dirty; the RAM is not written here.

@@ -1,4 +1,4 @@
-// What a kind gives. The record is copied by its fields, for speed.
+// What a kind gives. The record is copied by its fields, for speed (see `Board::by_fields`).
 ghost use Rattle.std.specs.Prelude.{◌≡◌, Ok, Err};
 ghost use Rattle.step_rules.specs.Answers.{giving};
 

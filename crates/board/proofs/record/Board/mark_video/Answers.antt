@@ -18,6 +18,6 @@ pub returns : goal.returns
 returns c =
     let s = c.args in
     λ ram. ap (λ (d : LineSet). with_dirty s.self d)
-    (c.with_shown-b.ensures
+    (c.with_shown.ensures
     ∙ registers_differ s.self.dirty s.self.rate ram s.before s.self.video
     (sym c.video_differs.ensures ∙ c.if-not-video_differs.false))
