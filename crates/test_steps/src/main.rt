@@ -13,7 +13,8 @@ use std::io::Read;
 fn main(rt: HostRuntime) -> io::Result<()> {
     let alloc = rt.alloc();
     let mut list = Vec::new(alloc);
-    rt.reader().read_to_end(&mut list)?;
+    // A list is 65,536 bytes at most: what follows is not read.
+    rt.reader().take(65536).read_to_end(&mut list)?;
     // 18 blocks of zeros and a byte.
     let memory = vec![in alloc; 0u8; 294913]?;
     let mut machine = Machine::new(&rt, memory, &list)?;
