@@ -9,8 +9,9 @@ use mathlib.Core.List.{List, [], ◌∷◌, ◌++◌, append_assoc, append-nil}
 use lib.ListN.{length, get_or, take, drop, replicate, length-append, length-drop, take-append-drop, get_or-append}
 use lib.Seq.{length-take-le, get_or_at, take_all, drop-drop}
 use Rattle.facts.specs.Lists.{in_room}
-use Rattle.byte_rows.specs.Rows.{put, zeros, rows}
-use Rattle.byte_rows.proofs.Rows.{rest_all, rows_length, put_put, put_length, room_put_at, rows_same, rows_take, zeros_length}
+use Rattle.facts.proofs.Rooms.{room_length}
+use Rattle.byte_rows.specs.Rows.{put, copied, zeros, rows}
+use Rattle.byte_rows.proofs.Rows.{copied_fits, rest_all, rows_length, put_put, put_length, room_put_at, rows_same, rows_take, zeros_length}
 use Rattle.archive.specs.Format.{Frame, no_frame, frame_in, archive_of, written, shown_of, entry_row, picture_row, entry, header, picture_offset}
 use Rattle.archive.specs.Sound.{frames_of, frame_at, count_of, entry_of, bench_at, number_at, shown_at}
 use Rattle.byte_rows.specs.Numbers.{number4}
@@ -105,14 +106,15 @@ unfolding zeros
 zeros_are zero = refl
 zeros_are (suc n) = ap (λ (xs : List ℕ). 0 ∷ xs) (zeros_are n)
 
-pub picture_put : (picture x y out : List ℕ) (used to : ℕ) → used ≤ length picture → used ≤ 23040 → to + 23040 ≤ length out → x ≡ take used picture
-    → (let p : List ℕ = take to out ++ (x ++ drop (to + used - to) (drop to out)) in
-    y ≡ replicate (length (take (to + 23040 - (to + used)) (drop (to + used) p))) 0
-    → take (to + used) p ++ (y ++ drop (to + 23040 - (to + used)) (drop (to + used) p)) ≡ put out to (padded picture used))
+pub picture_put : (picture p y out : List ℕ) (used to : ℕ) → used ≤ length picture → used ≤ 23040 → to + 23040 ≤ length out
+    → p ≡ copied out to (take used picture)
+    → y ≡ replicate (length (take (to + 23040 - (to + used)) (drop (to + used) p))) 0
+    → take (to + used) p ++ (y ++ drop (to + 23040 - (to + used)) (drop (to + used) p)) ≡ put out to (padded picture used)
 unfolding padded
-picture_put picture x y out used to h w l e f =
-    let n : length x ≡ used = ap length e ∙ length-take-le used picture h in
-    let i : take to out ++ (x ++ drop (to + used - to) (drop to out)) ≡ put out to x = placed out x to (to + used) (rw n) in
+picture_put picture p y out used to h w l e f =
+    let x : List ℕ = take used picture in
+    let n : length x ≡ used = length-take-le used picture h in
+    let i : p ≡ put out to x = e ∙ copied_fits out to x (rw n (omega arith)) in
     let v : length (put out to x) ≡ length out = put_length out to x (rw n (omega arith)) in
     let m : length (take (to + 23040 - (to + used)) (drop (to + used) (put out to x))) ≡ 23040 - used =
     length-take-le (to + 23040 - (to + used)) (drop (to + used) (put out to x)) (simp length-drop (omega (arith, v))) ∙ omega arith in
@@ -121,7 +123,7 @@ picture_put picture x y out used to h w l e f =
     let at : to + used ≡ to + length x = omega (arith, n) in
     let end : to + 23040 ≡ to + used + length y = omega (arith, k) in
     let both : put (put out to x) (to + used) y ≡ put out to (x ++ y) = put_put out to (to + used) x y (omega arith) at in
-    let done : put out to (x ++ y) ≡ put out to (take used picture ++ zeros (23040 - used)) = rw (e, z) in
+    let done : put out to (x ++ y) ≡ put out to (x ++ zeros (23040 - used)) = rw z in
     rw i (placed (put out to x) y (to + used) (to + 23040) end ∙ both ∙ done)
 
 -- ---- the next archive
@@ -176,21 +178,20 @@ module _ (b : List ℕ) (is : SoundIs b) (f : Frame) where
       (simp append_assoc)
 
 -- put down in its three parts
-pub next_put : (b : List ℕ) (n bench number shown from end : ℕ) (picture : List ℕ) (o p x r : List ℕ) → SoundIs b → n ≡ count_of b → 20 + 23056 * (n + 1) ≤ length o
+pub next_put : (b : List ℕ) (n bench number shown from end : ℕ) (picture : List ℕ) (o p q r : List ℕ) → SoundIs b → n ≡ count_of b → 20 + 23056 * (n + 1) ≤ length o
     → shown ≤ 256 → length picture ≡ 23040 → from ≡ 20 + 16 * (n + 1) → end ≡ from + 23040 * n → p ≡ in_room (next_entries b n bench number shown) o
-    → x ≡ take (length b - (20 + 16 * n)) (drop (20 + 16 * n) b)
-    → r ≡ put (take from p ++ (x ++ drop (end - from) (drop from p))) end (padded picture (shown * 90))
+    → q ≡ copied p from (take (length b - (20 + 16 * n)) (drop (20 + 16 * n) b))
+    → r ≡ put q end (padded picture (shown * 90))
     → r ≡ in_room (archive_of (frames_of b ++ (frame_of bench number shown picture ∷ []))) o
 unfolding padded frame_of shown_of
-next_put b n bench number shown from end picture o p x r is at room h w s t e f g =
+next_put b n bench number shown from end picture o p q r is at room h w s t e f g =
     let m : length (take (shown * 90) picture) ≡ shown * 90 = length-take-le (shown * 90) picture (omega arith) in
     let d : shown * 90 / 90 ≡ shown = omega arith in
-    let head : List ℕ = next_entries b n bench number shown in
+    let x : List ℕ = next_entries b n bench number shown in
     let y : List ℕ = drop (20 + 16 * n) b in
-    let q : x ≡ y = f ∙ rest_all b (20 + 16 * n) in
-    let i : length head ≡ from = next_entries_length b n bench number shown ∙ sym s in
+    let i : length x ≡ from = next_entries_length b n bench number shown ∙ sym s in
     let v : length y ≡ 23040 * n = simp length-drop (omega (arith, is.head.size)) in
-    let u : end ≡ from + length x = omega (arith, ap length q, v) in
-    let j : length (head ++ y) ≡ end = simp length-append (omega (arith, i, v)) in
-    rw (next_archive_lem b is (frame_of bench number shown picture), m, d, ← at, g, placed p x from end u, q, e, room_put_at head y o from (sym i))
-    (room_put_at (head ++ y) (padded picture (shown * 90)) o end (sym j))
+    let j : length (x ++ y) ≡ end = simp length-append (omega (arith, i, v)) in
+    let fits : from + length y ≤ length (in_room x o) = rw (room_length x o (omega (arith, i))) (omega (arith, v)) in
+    rw (next_archive_lem b is (frame_of bench number shown picture), m, d, ← at, g, f, e, rest_all b (20 + 16 * n), copied_fits (in_room x o) from y fits, room_put_at x y o from (sym i))
+    (room_put_at (x ++ y) (padded picture (shown * 90)) o end (sym j))

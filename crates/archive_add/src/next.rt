@@ -57,7 +57,7 @@ fn put_picture(picture: &[u8], used: usize, out: &mut [u8], to: usize)
     requires to_in_bounds { to + 23040 ≤ length out.old }
     ensures { out.new ≡ put out.old to (padded picture.now used) }
 {
-    out[to..to + used].copy_from_slice(&picture[..used]);
+    byte_rows::copy(&picture[..used], out, to);
     out[to + used..to + 23040].fill(0);
 }
 
@@ -73,6 +73,6 @@ pub(crate) fn put_next(archive: &Archive, label: Label, picture: &[u8], room: &m
     let pictures = &archive.layout.bytes[20 + 16 * n..];
     let from = 20 + 16 * (n + 1);
     let end = from + 23040 * n;
-    room[from..end].copy_from_slice(pictures);
+    byte_rows::copy(pictures, room, from);
     put_picture(picture, label.shown as usize * 90, room, end);
 }

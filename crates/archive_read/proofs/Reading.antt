@@ -2,17 +2,17 @@
 -- Assumes nothing.
 use Prim.Native.Nat.{ℕ, ◌+◌, ◌-◌, ◌*◌, ◌≤◌, ◌<◌}
 use native.Mathlib.Omega.{arith}
-use mathlib.Core.Path.{◌≡◌, refl}
+use mathlib.Core.Path.{◌≡◌, ◌∙◌, refl}
 use mathlib.Core.Bool.{Bool, true, false, cond}
-use mathlib.Core.List.{List, ◌++◌}
+use mathlib.Core.List.{List}
 use borrow.Author.Tests.{eq-eqb, ltb-true, lt-ltb}
 use lib.Dec.{ltb}
 use lib.ListN.{length, take, drop}
-use lib.Seq.{length-take-le}
 use Rattle.std.specs.Prelude.{Result, Ok, Err}
 use Rattle.refusal.specs.declared.Refusal.{Refusal}
 use Rattle.refusal.specs.declared.Refusal.TheVariants.{BadFrame}
-use Rattle.facts.specs.Lists.{in_room}
+use Rattle.byte_rows.specs.Rows.{copied}
+use Rattle.byte_rows.proofs.Rows.{copied_fits, put_start}
 use Rattle.archive.specs.declared.numbers.Entry.{Entry}
 use Rattle.archive.specs.Format.{picture_offset}
 use Rattle.archive.specs.Sound.{count_of, entry_of, sound, shown_at, lines_at}
@@ -48,10 +48,10 @@ module _ (a : List ℕ) (k : ℕ) (e : Entry) (given : cond (ltb k (count_of a))
     pub lines_fit : length (take (e.offset + e.shown * 90 - e.offset) (drop e.offset a)) ≤ 23040
     lines_fit = rw lines_are (omega (arith, most, lines_length a (sound_is a is) k told.0))
 
-    pub lines_read : (picture out : List ℕ) → length picture ≡ 23040 → out ≡ take (e.offset + e.shown * 90 - e.offset) (drop e.offset a)
-        → out ++ drop (length (take (e.offset + e.shown * 90 - e.offset) (drop e.offset a))) picture ≡ read_picture a k picture
-    unfolding read_picture read_answer entry_answer entry_refusal in_room
-    lines_read picture out w o = rw (o, lines_are, eq-eqb (length picture) 23040 w, is, lt-ltb k (count_of a) told.0)
-
-pub front_length : (x picture : List ℕ) → length picture ≡ 23040 → length x ≤ 23040 → length (take (length x) picture) ≡ length x
-front_length x picture w h = length-take-le (length x) picture (omega arith)
+    pub lines_read : (picture out : List ℕ) → length picture ≡ 23040
+        → out ≡ copied picture 0 (take (e.offset + e.shown * 90 - e.offset) (drop e.offset a)) → out ≡ read_picture a k picture
+    unfolding read_picture read_answer entry_answer entry_refusal
+    lines_read picture out w o =
+        o ∙ copied_fits picture 0 (take (e.offset + e.shown * 90 - e.offset) (drop e.offset a)) (omega (arith, lines_fit))
+        ∙ put_start picture (take (e.offset + e.shown * 90 - e.offset) (drop e.offset a))
+        ∙ rw (lines_are, eq-eqb (length picture) 23040 w, is, lt-ltb k (count_of a) told.0)

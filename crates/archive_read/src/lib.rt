@@ -20,7 +20,6 @@ pub fn read(a: &[u8], k: u32, picture: &mut [u8]) -> Result<Entry, Refusal>
     let e = Archive::open(a)?.entry(k)?;
     let from = e.offset as usize;
     let end = from + e.shown as usize * 90;
-    let lines = &a[from..end];
-    picture[..lines.len()].copy_from_slice(lines);
+    byte_rows::copy(&a[from..end], picture, 0);
     Ok(e)
 }
