@@ -1,4 +1,5 @@
 // The reach list, run on no input.
+// A program is run on one input, so each list has its own.
 #![tactic(auto)]
 
 use std::io;

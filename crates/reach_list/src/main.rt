@@ -1,4 +1,5 @@
 // The reach list, run on the sample of document 01.
+// A program is run on one input, so each list has its own.
 #![tactic(auto)]
 
 use std::io;

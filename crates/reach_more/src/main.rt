@@ -1,4 +1,5 @@
 // The reach list, run on more groups than one chunk holds: bad sizes, every bank, lock bit and kind of map, and a short last group.
+// A program is run on one input, so each list has its own.
 #![tactic(auto)]
 
 use std::io;

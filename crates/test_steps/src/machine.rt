@@ -77,12 +77,19 @@ impl<'a> Machine<'a> {
         })
     }
 
-    // The answer to a step from the record as it is, unless more is to be lent than there is.
-    fn answer(&mut self, s: Numbered) -> Option<Answer> {
-        let asked = decode_step(s.kind.into(), s.number.into(), s.value.into());
+    // The RAM and the boot stream, unless more of either is to be lent than there is.
+    fn lent(&mut self) -> Option<(&mut [u8], &[u8])> {
         let ram = self.memory.as_mut_slice().get_mut(..self.ram_length)?;
         let boot = self.list.get(..self.boot_length)?;
-        Some(step(self.board, asked, ram, boot))
+        Some((ram, boot))
+    }
+
+    // The answer to a step from the record as it is.
+    fn answer(&mut self, s: Numbered) -> Option<Answer> {
+        let asked = decode_step(s.kind.into(), s.number.into(), s.value.into());
+        let board = self.board;
+        let (ram, boot) = self.lent()?;
+        Some(step(board, asked, ram, boot))
     }
 
     fn step(&mut self, rt: &impl Print, s: Numbered) -> io::Result<()> {
@@ -131,15 +138,15 @@ impl<'a> Machine<'a> {
         Ok(())
     }
 
-    fn byte(&self, rt: &impl Print, at: usize) -> io::Result<()> {
-        match self.memory.as_slice().get(..self.ram_length) {
-            Some(ram) => print!(rt; "   {:02x}", byte_at(ram, at)),
+    fn byte(&mut self, rt: &impl Print, at: usize) -> io::Result<()> {
+        match self.lent() {
+            Some((ram, _)) => print!(rt; "   {:02x}", byte_at(ram, at)),
             None => Ok(()),
         }
     }
 
     fn fill(&mut self, value: u8) {
-        if let Some(ram) = self.memory.as_mut_slice().get_mut(..self.ram_length) {
+        if let Some((ram, _)) = self.lent() {
             ram.fill(value);
         }
     }

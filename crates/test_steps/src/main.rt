@@ -7,13 +7,15 @@ mod machine;
 
 use crate::group::Group;
 use crate::machine::Machine;
+use reading::read_full;
 use std::io;
-use std::io::Read;
 
 fn main(rt: HostRuntime) -> io::Result<()> {
     let alloc = rt.alloc();
-    let mut list = Vec::new(alloc);
-    rt.reader().read_to_end(&mut list)?;
+    // A list is 65,536 bytes at most: what follows is not read. An interrupted read ends the run, where `read_to_end` would go on.
+    let mut list = vec![in alloc; 0u8; 65536]?;
+    let got = read_full(&mut rt.reader(), &mut list)?;
+    list.truncate(got);
     // 18 blocks of zeros and a byte.
     let memory = vec![in alloc; 0u8; 294913]?;
     let mut machine = Machine::new(&rt, memory, &list)?;
