@@ -10,7 +10,7 @@ use Rattle.step_rules.specs.declared.Step.{Step}
 use Rattle.step_rules.specs.Answers.{lent_refusal, refused_answer, step_answer, step_ram, told, step_effect, effect_ram, answer_of}
 use Rattle.step_rules.specs.Decoding.{step_of, numbers_answer, numbers_ram}
 use Rattle.step_rules.proofs.After.{refused_ram}
-use Rattle.step_rules.proofs.Answers.{step_answered, step_own_ram, step_lent}
+use Rattle.step_rules.proofs.Answers.{step_own, step_own_ram, step_lent}
 use Rattle.step_rules.proofs.Decoding.{numbers_answer_lem, numbers_ram_lem}
 
 -- an answer that is refused by a refusal's number is that refusal
@@ -37,7 +37,7 @@ module _ (b : Board) (ram boot : List ℕ) (s : Step) where
 
   -- they are found good
   pub lent_answer : lent_refusal b (length ram) (length boot) ≡ 0 → told (step_answer b ram boot s) ≡ answer_of (step_effect b ram boot s)
-  lent_answer e = sym (step_answered b ram boot s e)
+  lent_answer e = sym (step_own b ram boot s e)
 
   pub lent_ram : lent_refusal b (length ram) (length boot) ≡ 0 → step_ram b ram boot s ≡ effect_ram b ram boot s
   lent_ram e = sym (step_own_ram b ram boot s e)

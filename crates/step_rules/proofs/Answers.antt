@@ -88,15 +88,15 @@ module _ (b : Board) (ram boot : List ℕ) (s : Step) where
       go false = refl
 
   -- those of record and buffers come first
-  pub step_own : lent_refusal b (length ram) (length boot) ≡ 0 → step_refusal b ram boot s ≡ own_refusal b (length boot) s
+  pub own_first : lent_refusal b (length ram) (length boot) ≡ 0 → step_refusal b ram boot s ≡ own_refusal b (length boot) s
   unfolding step_refusal
-  step_own e = first_second _ (own_refusal b (length boot) s) e
+  own_first e = first_second _ (own_refusal b (length boot) s) e
 
-  pub step_answered : lent_refusal b (length ram) (length boot) ≡ 0 → answer_of (step_effect b ram boot s) ≡ told (step_answer b ram boot s)
+  pub step_own : lent_refusal b (length ram) (length boot) ≡ 0 → answer_of (step_effect b ram boot s) ≡ told (step_answer b ram boot s)
   unfolding step_effect step_answer accepted_answer answer_of answered
-  step_answered e =
+  step_own e =
       let n = own_refusal b (length boot) s in
-      rw (step_own e)
+      rw (own_first e)
       (go (eqb n 0) (λ g. answer_refused b n (good_nmi b (lent_good b (length ram) (length boot) e)) (own_known b (length boot) s) g) refl)
     where
       go : (t : Bool)
@@ -110,15 +110,19 @@ module _ (b : Board) (ram boot : List ℕ) (s : Step) where
 
   pub step_own_ram : lent_refusal b (length ram) (length boot) ≡ 0 → effect_ram b ram boot s ≡ step_ram b ram boot s
   unfolding effect_ram step_ram
-  step_own_ram e = rw (step_own e)
+  step_own_ram e = rw (own_first e)
 
   pub step_lent : (lent_refusal b (length ram) (length boot) ≡ 0 → ⊥) → step_refusal b ram boot s ≡ lent_refusal b (length ram) (length boot)
   unfolding step_refusal
   step_lent ne = first_first _ (own_refusal b (length boot) s) _ refl ne
 
+  pub step_refused : (n : ℕ) → lent_refusal b (length ram) (length boot) ≡ n → (n ≡ 0 → ⊥) → refused_answer b n ≡ step_answer b ram boot s
+  unfolding step_answer step_refusal
+  step_refused n e ne = rw (first_first _ (own_refusal b (length boot) s) n e ne, ne_eqb n 0 ne)
+
   -- a refusal of the kind is known only of a good record
   pub own_other : lent_refusal b (length ram) (length boot) ≡ 0 → eqb (step_refusal b ram boot s) 1 ≡ false
-  own_other e = rw (step_own e) (own_known b (length boot) s)
+  own_other e = rw (own_first e) (own_known b (length boot) s)
 
   -- a step that keeps RAM and video registers marks nothing
   pub plain : ram_after b.sizes b.paging ram s ≡ ram → video_after b.video s ≡ b.video → Words b.dirty → board_after b ram s ≡ parts_after b s

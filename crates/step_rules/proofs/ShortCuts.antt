@@ -23,7 +23,7 @@ use Rattle.step_rules.specs.After.{paging_after, boot_after, ram_after, parts_af
 use Rattle.step_rules.specs.Answers.{kind_refusal, stream_ended, state_refusal, own_refusal, fetched_byte, step_outcome, int_line, nmi_line, nmi_shown, accepted_answer, refused_answer, step_refusal, step_answer, step_ram, giving}
 use Rattle.step_rules.specs.ShortCuts.{only_byte, Ready, ReadsDirectly, FetchesDirectly, StoresDirectly, BanksWhole, writes_maps, commands, MapsStand, BootStands, LineStands}
 use Rattle.step_rules.proofs.After.{after_step}
-use Rattle.step_rules.proofs.Answers.{lent_good, own_ram, own_other, step_own, step_own_ram, plain}
+use Rattle.step_rules.proofs.Answers.{lent_good, own_ram, own_other, own_first, step_own_ram, plain}
 use Rattle.step_rules.proofs.Good.{step_sizes}
 
 -- a good record that is answered with shows no NMI, and stays
@@ -36,7 +36,7 @@ module _ (b : Board) (ram boot : List ℕ) (r : Ready b ram boot) (s : Step) (by
   still : own_refusal b (length boot) s ≡ 0 → board_after b ram s ≡ b → step_outcome b ram boot s ≡ giving byte → step_answer b ram boot s ≡ only_byte b byte
   unfolding step_answer
   still e k o =
-      rw (step_own b ram boot s r.lent ∙ e, k, o) (shown_byte b byte (good_nmi b (lent_good b (length ram) (length boot) r.lent)))
+      rw (own_first b ram boot s r.lent ∙ e, k, o) (shown_byte b byte (good_nmi b (lent_good b (length ram) (length boot) r.lent)))
 
   left : own_refusal b (length boot) s ≡ 0 → step_ram b ram boot s ≡ ram_after b.sizes b.paging ram s
   left e = sym (own_ram b ram boot s e ∙ step_own_ram b ram boot s r.lent)

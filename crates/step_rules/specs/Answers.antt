@@ -144,6 +144,6 @@ step_effect b ram boot s = record {
 unfoldable pub effect_ram : Board → List ℕ → List ℕ → Step → List ℕ
 effect_ram b ram boot s = cond (eqb (own_refusal b (length boot) s) 0) (ram_after b.sizes b.paging ram s) ram
 
--- the lines of the record, shown for a refusal too: a good one's NMI is off (`step_answered`)
+-- the lines of the record, shown for a refusal too: a good one's NMI is off (`step_own`)
 unfoldable pub answer_of : Effect → declared_answer.Answer
 answer_of e = record { board = nmi_shown e.board; reply = record { outcome = e.outcome; int = int_line e.board; nmi = nmi_line e.board } }
