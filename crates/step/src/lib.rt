@@ -5,7 +5,6 @@
 ghost use Rattle.std.specs.Prelude.{◌≡◌};
 ghost use Rattle.step_rules.specs.Answers.{step_effect, effect_ram, step_answer, step_ram, told};
 ghost use Rattle.step_rules.specs.Decoding.{decoded, numbers_answer, numbers_ram};
-ghost use Rattle.step.specs.Checked.{Checked};
 
 mod effects;
 mod lent;
@@ -15,7 +14,7 @@ mod ports;
 
 use board::{Board, Disc};
 use effects::{SILENT, accept};
-use lent::check_lent;
+use lent::GoodBoard;
 use lines::{refused, with_interrupt_lines};
 use memory::{fetch, key, read, write};
 use ports::{port_in, port_out};
@@ -24,16 +23,16 @@ use step_rules::{Effect, decode_step};
 
 // What the kind does, once record and buffers are found good.
 #[tactic(auto, using(crate::proofs::Does::scan_does, crate::proofs::Does::disc_does, crate::proofs::Does::external_does, crate::proofs::Does::write_does, crate::proofs::Does::write_stores, crate::proofs::Does::ram_kept_by))]
-fn effect(b: Board, s: Step, ram: &mut [u8], boot: &[u8]) -> Effect
-    requires { Checked b }
-    ensures { (result ≡ step_effect b ram.old boot.now s) × (ram.new ≡ effect_ram b ram.old boot.now s) }
+fn effect(good: GoodBoard, s: Step, ram: &mut [u8], boot: &[u8]) -> Effect
+    ensures { (result ≡ step_effect good.board ram.old boot.now s) × (ram.new ≡ effect_ram good.board ram.old boot.now s) }
 {
+    let b = good.board;
     match s {
-        Step::Fetch(address) => fetch(b, address, ram, boot),
-        Step::Read(address) => read(b, address, ram),
-        Step::Write(address, value) => write(b, address, value, ram),
-        Step::PortIn(port) => port_in(b, port),
-        Step::PortOut(port, value) => port_out(b, port, value),
+        Step::Fetch(address) => fetch(good, address, ram, boot),
+        Step::Read(address) => read(good, address, ram),
+        Step::Write(address, value) => write(good, address, value, ram),
+        Step::PortIn(port) => port_in(good, port),
+        Step::PortOut(port, value) => port_out(good, port, value),
         Step::Scan => accept(b.scan(), SILENT),
         Step::Key(offset, value) => key(b, offset, value, ram),
         Step::DiscLine(on) => {
@@ -52,10 +51,10 @@ fn effect(b: Board, s: Step, ram: &mut [u8], boot: &[u8]) -> Effect
 pub fn step(b: Board, s: Step, ram: &mut [u8], boot: &[u8]) -> Answer
     ensures { (result ≡ told (step_answer b ram.old boot.now s)) × (ram.new ≡ step_ram b ram.old boot.now s) }
 {
-    if let Err(refusal) = check_lent(b, ram.len(), boot.len()) {
-        return refused(b, refusal);
+    match GoodBoard::lent(b, ram.len(), boot.len()) {
+        Ok(good) => with_interrupt_lines(effect(good, s, ram, boot)),
+        Err(refusal) => refused(b, refusal),
     }
-    with_interrupt_lines(effect(b, s, ram, boot))
 }
 
 // The step that a kind, a number and a value name. They are read only where record and buffers are found good, so that the kind leads
@@ -72,8 +71,10 @@ pub fn step_by_numbers(
     ensures { (result ≡ told (numbers_answer b ram.old boot.now (decoded kind number value))) × (ram.new ≡ numbers_ram b ram.old boot.now (decoded kind number value)) }
 {
     let c = b.by_fields();
-    if let Err(refusal) = check_lent(c, ram.len(), boot.len()) {
-        return refused(c, refusal);
+    match GoodBoard::lent(c, ram.len(), boot.len()) {
+        Ok(good) => {
+            with_interrupt_lines(effect(good, decode_step(kind, number, value), ram, boot))
+        }
+        Err(refusal) => refused(c, refusal),
     }
-    with_interrupt_lines(effect(c, decode_step(kind, number, value), ram, boot))
 }

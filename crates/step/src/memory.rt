@@ -3,9 +3,9 @@ ghost use Rattle.std.specs.Prelude.{◌≡◌, List, ℕ, get_or, set};
 ghost use Rattle.paging.specs.Memory.{read_index};
 ghost use Rattle.step_rules.specs.After.{board_after, ram_after};
 ghost use Rattle.step_rules.specs.Answers.{step_effect, effect_ram};
-ghost use Rattle.step.specs.Checked.{Checked};
 
 use crate::effects::{SILENT, accept, give, refuse};
+use crate::lent::GoodBoard;
 use board::{Board, Boot};
 use paging::{byte_at, index, keyboard_index};
 use refusal::Refusal;
@@ -21,20 +21,19 @@ fn read_byte(b: Board, address: u16, ram: &[u8]) -> u8
 }
 
 #[tactic(auto, using(crate::proofs::Does::read_does))]
-pub(crate) fn read(b: Board, address: u16, ram: &[u8]) -> Effect
-    requires { Checked b }
-    ensures { (boot : List ℕ) → result ≡ step_effect b ram.now boot (Step.Read address) }
+pub(crate) fn read(good: GoodBoard, address: u16, ram: &[u8]) -> Effect
+    ensures { (boot : List ℕ) → result ≡ step_effect good.board ram.now boot (Step.Read address) }
 {
-    let byte = read_byte(b, address, ram);
-    give(b, byte)
+    let byte = read_byte(good.board, address, ram);
+    give(good.board, byte)
 }
 
 // In boot mode the stream's next byte, else the byte read.
 #[tactic(auto, using(crate::proofs::Does::fetch_reads, crate::proofs::Does::fetch_ends, crate::proofs::Does::fetch_takes))]
-pub(crate) fn fetch(b: Board, address: u16, ram: &[u8], boot: &[u8]) -> Effect
-    requires { Checked b }
-    ensures { result ≡ step_effect b ram.now boot.now (Step.Fetch address) }
+pub(crate) fn fetch(good: GoodBoard, address: u16, ram: &[u8], boot: &[u8]) -> Effect
+    ensures { result ≡ step_effect good.board ram.now boot.now (Step.Fetch address) }
 {
+    let b = good.board;
     if b.boot.mode != 1 {
         let byte = read_byte(b, address, ram);
         return give(b, byte);
@@ -63,10 +62,10 @@ fn put(ram: &mut [u8], at: usize, value: u8)
 
 // No line is drawn from a block past 7. The lines are marked by the block that is written, not by the one that is read.
 #[tactic(auto, unfolding(step_rules::specs::After::board_after, paging::specs::Memory::write_index, paging::specs::Memory::reach_of), using(crate::proofs::Does::past_marks, crate::proofs::Does::write_does, crate::proofs::Does::write_stores))]
-pub(crate) fn write(b: Board, address: u16, value: u8, ram: &mut [u8]) -> Effect
-    requires { Checked b }
-    ensures { (boot : List ℕ) → (result ≡ step_effect b ram.old boot (Step.Write address value)) × (ram.new ≡ effect_ram b ram.old boot (Step.Write address value)) }
+pub(crate) fn write(good: GoodBoard, address: u16, value: u8, ram: &mut [u8]) -> Effect
+    ensures { (boot : List ℕ) → (result ≡ step_effect good.board ram.old boot (Step.Write address value)) × (ram.new ≡ effect_ram good.board ram.old boot (Step.Write address value)) }
 {
+    let b = good.board;
     let reach = b.paging.reach(b.sizes, address);
     let marked = index(reach.write, reach.place);
     let stored = index(reach.write, reach.place);
