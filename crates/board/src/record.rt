@@ -1,4 +1,4 @@
-// The board's record (document 01: the record). It is C's, laid out as C does: flags and the disc's route are numbers too, no bool and
+// The board's record (document 01: the record). It is C's, laid out as C does: the rate, flags and the disc's route are numbers, no bool and
 // no enum, since every bit pattern that C lends is a record, good or not.
 use lineset::LineSet;
 use paging::{Paging, Sizes};

@@ -44,7 +44,7 @@ fn fresh(sizes: Sizes, rate: u8, paging: Paging, table: u8, top: u8) -> Board
     }
 }
 
-// Refused for sizes that are not allowed or a rate other than 50 or 60.
+// Refused for sizes that are not allowed or a rate other than 50 or 60. The five stand one by one, as in `powered_on`, the rule.
 #[tactic(auto, unfolding(crate::specs::Power::powered_on, crate::specs::Power::power_on_refusal, board::specs::Record::good_rate, refusal::specs::Numbers::answered, refusal::specs::Numbers::named))]
 pub fn power_on(
     sizes: Sizes,

@@ -5,5 +5,5 @@ mod packing;
 
 pub use packing::{
     FLOATING, FORWARDED, FOUND, INT, NMI, accepted, make_pointer_reply, reach_reply,
-    read_pointer_reply, refused, refused_step,
+    read_pointer_reply, refused, refused_step, reply,
 };

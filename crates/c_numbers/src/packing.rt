@@ -22,7 +22,7 @@ pub const FOUND: u8 = 16;
 
 // C is given one number, by the rule `reply`.
 #[tactic(auto, unfolding(crate::specs::Packing::reply))]
-fn packed(value: u16, flags: u8, refusal: u8, more: u16) -> u64
+pub fn reply(value: u16, flags: u8, refusal: u8, more: u16) -> u64
     ensures { result ≡ reply value flags refusal more }
 {
     value as u64
@@ -32,20 +32,20 @@ fn packed(value: u16, flags: u8, refusal: u8, more: u16) -> u64
 pub fn accepted(value: u16, flags: u8, more: u16) -> u64
     ensures { result ≡ reply value flags 0 more }
 {
-    packed(value, flags, 0, more)
+    reply(value, flags, 0, more)
 }
 
 pub fn refused(refusal: Refusal) -> u64
     ensures { result ≡ reply 0 0 (number refusal) 0 }
 {
-    packed(0, 0, u8::from(refusal), 0)
+    refused_step(refusal, 0)
 }
 
 // A refusal beside which the interrupt lines are shown.
 pub fn refused_step(refusal: Refusal, flags: u8) -> u64
     ensures { result ≡ reply 0 flags (number refusal) 0 }
 {
-    packed(0, flags, u8::from(refusal), 0)
+    reply(0, flags, u8::from(refusal), 0)
 }
 
 // A pointer word read.

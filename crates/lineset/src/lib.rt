@@ -13,7 +13,7 @@ pub struct LineSet {
     pub words: [u64; 4],
 }
 
-// How many lines a frame rate shows: 256 at 50 Hz, 200 at 60 Hz, none at any other rate.
+// How many lines a frame rate shows: 256 at 50 Hz, 200 at 60 Hz, none at any other rate. (A rate is a number, as in C's record.)
 #[tactic(auto, unfolding(crate::specs::Lines::shown_count))]
 pub fn shown_count(rate: u8) -> u16
     ensures { result ≡ shown_count rate }

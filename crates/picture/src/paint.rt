@@ -41,7 +41,7 @@ impl View<'_> {
         }
     }
 
-    // The lines of a set, found one after the other.
+    // The lines of a set. (Document 01: "trailing zeros find the next line"; each search starts past the line found before.)
     pub(crate) fn paint_set(self, lines: LineSet, picture: &mut [u8; 23040])
         ensures { picture.new ≡ painted (member lines) (record { video = self.entry.video; ram = self.entry.ram.now }) picture.old }
     {

@@ -37,8 +37,8 @@ fn same_lines(a: &[u8], b: &[u8]) -> bool
     a == b
 }
 
-// Lines outside, bytes inside; the search is left by the label at the first unequal byte. Line and byte are read behind it, so both are
-// counted by hand. Eight lines that are the same are passed over at once.
+// Document 01: "Lines outside, bytes inside; the search is left by a label at the first unequal byte." Line and byte are read behind the
+// label, so both are counted by hand. Eight lines that are the same are passed over at once.
 #[tactic(auto, using(crate::proofs::Differences::alike_none, crate::proofs::Differences::alike_next, crate::proofs::Differences::alike_line, crate::proofs::Differences::alike_eight, crate::proofs::Differences::position_same))]
 fn unequal_position(a: &[u8; 23040], b: &[u8; 23040]) -> Option<Position>
     ensures { result ≡ first_difference a.now b.now }

@@ -24,7 +24,8 @@ pub fn read_full<R: Read>(from: &mut R, buf: &mut [u8]) -> io::Result<usize>
     Ok(done)
 }
 
-// The next N bytes, if so many come before the input ends.
+// The next N bytes, if so many come before the input ends. (Each program has a loop of its own over them: a closure that takes such an
+// array is not covered by the borrow checker.)
 pub fn read_group<const N: usize, R: Read>(from: &mut R) -> io::Result<Option<[u8; N]>>
     ensures { IfOk result (λ o. MatchOption o (IsAtEnd (R.remaining from.new)) (λ g. Consumes (R.remaining from.old) (R.remaining from.new) g)) }
 {

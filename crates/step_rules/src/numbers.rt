@@ -24,7 +24,7 @@ fn in_range(kind: u32, number: u32, value: u32) -> bool
 }
 
 // The step that a kind, a number and a value name; where they name none, one that is refused alike, and no error: so no second way
-// through a step is compiled. Kinds are C's numbers. (One match over kind, number and value, with ranges, takes each step 6 to 13
+// through a step is compiled. Kind, number and value stand one by one, as C gives them to joyce_step. (One match over kind, number and value, with ranges, takes each step 6 to 13
 // instructions more.)
 #[tactic(auto, unfolding(crate::specs::Decoding::decoded, crate::specs::Decoding::step_of, crate::specs::Decoding::step_named, crate::specs::Decoding::in_range, crate::specs::Decoding::largest_number, crate::specs::Decoding::largest_value))]
 pub fn decode_step(kind: u32, number: u32, value: u32) -> Step

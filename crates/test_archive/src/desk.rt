@@ -10,7 +10,7 @@ use std::alloc::{AllocError, Global};
 use std::io;
 use test_bytes::{fill, sum};
 
-// `written` is the length of the archive that was written last.
+// `written` is the length of the archive that was written last; the room's own is what the next call is lent.
 #[derive(Drop)]
 pub(crate) struct Desk {
     held: Lent,

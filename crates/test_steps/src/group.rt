@@ -1,7 +1,7 @@
 // A group is four bytes: what to do, and a, b and c. 1 to 9: a step of this kind, at a + 256 * b with the value c.
 // 10: power-on. 11: the RAM's length. 12: the boot stream's length. 13: a field of the record. 14: the record. 15: the dirty
 // lines. 16: a byte of the RAM. 17: steps of kind c, printed where a tick falls. 18: all ports. 19: the RAM filled.
-// 0: text. Any other: a step of a kind that there is not.
+// 0: text. Any other: a step of a kind that there is not. A kind stays a number: it is printed, and may name no step.
 use paging::Sizes;
 
 #[derive(Clone, Copy)]

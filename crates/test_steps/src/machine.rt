@@ -1,4 +1,5 @@
 // The record, and the memory and boot stream of which steps are lent the first bytes. The stream is the list itself.
+// The lengths stand by themselves: one may be over what there is, and then nothing is lent.
 use crate::group::{Group, Numbered};
 use board::Board;
 use lineset::LineSet;
