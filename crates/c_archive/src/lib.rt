@@ -28,14 +28,20 @@ fn refused(refusal: Refusal) -> u64
     reply(0, refusal.into(), 0)
 }
 
+fn count_or_refusal(answer: Result<u32, Refusal>) -> u64
+    ensures { MatchResult answer (λ n. result ≡ reply n 0 0) (λ r. result ≡ reply 0 (number r) 0) }
+{
+    match answer {
+        Ok(count) => reply(count as u64, 0, 0),
+        Err(refusal) => refused(refusal),
+    }
+}
+
 fn written_reply(written: Result<usize, Refusal>) -> u64
     requires { IfOk written (λ n. n ≤ 4294967295) }
     ensures { MatchResult written (λ n. result ≡ reply n 0 0) (λ r. result ≡ reply 0 (number r) 0) }
 {
-    match written {
-        Ok(length) => reply(length as u64, 0, 0),
-        Err(refusal) => refused(refusal),
-    }
+    count_or_refusal(written.map(|length| length as u32))
 }
 
 // 1 for 200 shown lines, 2 for 256.
@@ -72,10 +78,7 @@ pub fn start_reply(room: &mut [u8]) -> u64
 pub fn count_reply(a: &[u8]) -> u64
     ensures { result ≡ count_reply (count_answer a.now) }
 {
-    match archive::count(a) {
-        Ok(count) => reply(count as u64, 0, 0),
-        Err(refusal) => refused(refusal),
-    }
+    count_or_refusal(archive::count(a))
 }
 
 pub fn entry_reply(a: &[u8], k: u32) -> u64

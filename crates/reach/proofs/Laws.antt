@@ -8,11 +8,12 @@ use native.Mathlib.Numerals.{add-one}
 use borrow.Author.Tests.{lt-ltb, le-ltb, ltb-false, leb-true, leb-false}
 use lib.Dec.{ltb, leb, lit≤}
 use lib.ListN.{length, take, drop, length-append, length-drop}
-use lib.Seq.{take_all}
+use lib.Seq.{take_all, drop-drop, take-append_seam, drop-append_seam}
 use Rattle.facts.specs.Lists.{in_room}
 use Rattle.facts.proofs.Rooms.{room_length, room_step}
 use Rattle.paging.specs.Maps.{allowed}
 use Rattle.std.specs.Prelude.{Result, Ok, Err, IfOk}
+use Rattle.std.proofs.lemmas.List.{drop_all}
 use Rattle.refusal.specs.declared.Refusal.{Refusal}
 use Rattle.refusal.specs.declared.Refusal.TheVariants.{BadLength}
 use Rattle.reach.specs.Text.{sizes_of, paging_of, address_of, reach_line, refusal_line, whole_line, group_line}
@@ -45,17 +46,44 @@ text_length input zero = omega arith
 text_length input (suc k) =
     simp length-append (omega (arith, text_length input k, group_line_length (take 9 (drop (9 * k) input))))
 
--- the k-th group, as a part that ends where the input may end
-pub group_cut : (input : List ℕ) (k e : ℕ) → e ≡ min (length input) (9 * k + 9) → take (e - 9 * k) (drop (9 * k) input) ≡ take 9 (drop (9 * k) input)
-group_cut input k e h = go (leb (9 * k + 9) (length input)) refl
+-- a piece of at most 9 bytes from the front, and what is left past it
+cut : (x t : List ℕ) → length x ≡ min 9 (length (x ++ t)) → (x ≡ take 9 (x ++ t)) × (t ≡ drop 9 (x ++ t))
+cut x t h = go (leb 9 (length (x ++ t))) refl
   where
-    go : (b : Bool) → leb (9 * k + 9) (length input) ≡ b → take (e - 9 * k) (drop (9 * k) input) ≡ take 9 (drop (9 * k) input)
+    go : (b : Bool) → leb 9 (length (x ++ t)) ≡ b → (x ≡ take 9 (x ++ t)) × (t ≡ drop 9 (x ++ t))
     go true q =
-        let z : e - 9 * k ≡ 9 = omega (arith, leb-true (9 * k + 9) (length input) q) in
-        rw z
+        let z : length x ≡ 9 = omega (arith, leb-true 9 (length (x ++ t)) q) in
+        let f : take (length x) (x ++ t) ≡ x = take-append_seam x t in
+        let r : drop (length x) (x ++ t) ≡ t = drop-append_seam x t in
+        (sym (rw z at f), sym (rw z at r))
     go false q =
-        take_all (e - 9 * k) (drop (9 * k) input) (simp length-drop (omega (arith, leb-false (9 * k + 9) (length input) q)))
-        ∙ sym (take_all 9 (drop (9 * k) input) (simp length-drop (omega (arith, leb-false (9 * k + 9) (length input) q))))
+        let l : length (x ++ t) ≤ length x = omega (arith, leb-false 9 (length (x ++ t)) q) in
+        let m : length (x ++ t) ≤ 9 = omega (arith, leb-false 9 (length (x ++ t)) q) in (
+          sym (take-append_seam x t) ∙ take_all (length x) (x ++ t) l ∙ sym (take_all 9 (x ++ t) m),
+          sym (drop-append_seam x t) ∙ drop_all (length x) (x ++ t) l ∙ sym (drop_all 9 (x ++ t) m),
+        )
+
+-- the k-th piece of the input is its k-th group
+module _ (input s x t : List ℕ) (k : ℕ) (from : s ≡ drop (9 * k) input) (parts : s ≡ x ++ t) (size : length x ≡ min 9 (length s)) where
+  pub piece_is : group_line x ≡ line_at input k
+  unfolding line_at
+  piece_is = let g = cut x t (rw parts at size) in ap group_line (rw (← parts, from) at g.0)
+
+  pub rest_is : t ≡ drop (9 * (k + 1)) input
+  rest_is =
+      let g = cut x t (rw parts at size) in
+      let e : 9 * k + 9 ≡ 9 * (k + 1) = omega arith in
+      (rw (← parts, from) at g.1) ∙ drop-drop 9 (9 * k) input ∙ ap (λ (n : ℕ). drop n input) e
+
+-- a group is left where a byte is, and none where none is
+module _ (input s : List ℕ) (k : ℕ) (from : s ≡ drop (9 * k) input) where
+  pub one_more : 0 < length s → k + 1 ≤ groups (length input)
+  unfolding groups
+  one_more h = let e : length s ≡ length input - 9 * k = rw from (length-drop (9 * k) input) in omega arith
+
+  pub no_more : length s ≡ 0 → k ≤ groups (length input) → k ≡ groups (length input)
+  unfolding groups
+  no_more z h = let e : length s ≡ length input - 9 * k = rw from (length-drop (9 * k) input) in omega arith
 
 -- one more line put down after the first k
 module _ (input start out : List ℕ) (k to : ℕ) (at : to ≡ length (text_of input k)) (so_far : out ≡ in_room (text_of input k) start) where

@@ -30,6 +30,7 @@ impl Line {
 }
 
 // The last hex digit of a number, in upper case.
+// By hand, as the lines are: std promises nothing of the bytes that `write!` puts into a `&mut [u8]`.
 #[tactic(auto, unfolding(crate::specs::Text::hex_digit))]
 fn digit(n: u16) -> u8
     ensures { result ≡ hex_digit n }
@@ -123,7 +124,7 @@ fn count(input: &[u8]) -> usize
     input.len().div_ceil(9)
 }
 
-// By index: over `chunks(9)` it was not proved what each chunk of the iterator holds.
+// Puts the lines of all groups into `out`, and gives their length.
 #[tactic(auto, using(crate::proofs::Laws::room, crate::proofs::Laws::text_length, facts::proofs::Rooms::room_length), unfolding(crate::specs::Text::reach_text, crate::specs::Text::groups))]
 fn fill(input: &[u8], out: &mut [u8]) -> usize
     requires { 20 * groups (length input.now) ≤ length out.old }
@@ -131,10 +132,8 @@ fn fill(input: &[u8], out: &mut [u8]) -> usize
     ensures out_after { out.new ≡ in_room (reach_text input.now) out.old }
 {
     let mut to = 0;
-    for k in 0..count(input) {
-        let at = 9 * k;
-        let end = input.len().min(at + 9);
-        to = put_line(&input[at..end], out, to);
+    for group in input.chunks(9) {
+        to = put_line(group, out, to);
     }
     to
 }

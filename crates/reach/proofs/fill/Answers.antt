@@ -1,17 +1,28 @@
-use Rattle.std.proofs.Common.{refl}
+use Rattle.std.proofs.Common.{rules, ◌≡◌, ◌+◌, length, length-append, List, [], ◌∷◌, ◌++◌, refl, ◌∙◌}
 use Rattle.facts.proofs.Rooms.{room_nothing}
-use Rattle.reach.specs.Text.{text_of, line_at}
-use Rattle.reach.proofs.Laws.{next_length_lem, next_out, group_cut}
+use Rattle.reach.specs.Text.{text_of, group_line}
+use Rattle.reach.proofs.Laws.{next_length_lem, next_out, piece_is, rest_is, one_more}
 use Rattle.reach.proofs.fill.Goals as goal
 
-pub loop-k-init : goal.loop-k-init
+pub loop-group-init : goal.loop-group-init
 unfolding text_of
-loop-k-init c = (refl, room_nothing c.args.out.now)
+loop-group-init c = (search rules, tt, search rules, search rules, search rules, refl, room_nothing c.args.out.now)
 
-pub loop-k-preserved : goal.loop-k-preserved
-unfolding line_at
-loop-k-preserved c =
-    let i = c.loop-k.invariant in
+pub loop-group-preserved : goal.loop-group-preserved
+loop-group-preserved c =
+    let i = c.loop-group.invariant in
+    let input = c.args.input.now in
+    let k = length c.loop-group.yielded in
+    let steps = c.in-Some.ensures.steps in
     let p = c.put_line-to.ensures in
-    let g = group_cut c.args.input.now c.loop-k.k c.min-end.result c.min-end.ensures in
-    (next_length_lem _ _ _ _ _ i.0 i.1 (rw g at p.value), next_out _ _ _ _ _ i.0 i.1 (rw g at p.value) (rw g at p.out_after))
+    let size = rw i.2 at steps.1.1 in
+    let g = piece_is input _ _ _ k i.3 steps.1.0 size in
+    let e : length (c.loop-group.yielded ++ c.in-Some.group ∷ []) ≡ length c.loop-group.yielded + 1 = length-append _ _ in (
+      search rules,
+      tt,
+      steps.0 ∙ i.2,
+      rw e (rest_is input _ _ _ k i.3 steps.1.0 size),
+      rw e (one_more input _ k i.3 steps.1.2),
+      rw e (next_length_lem input _ _ k _ i.5 i.6 (rw g at p.value)),
+      rw e (next_out input _ _ k _ i.5 i.6 (rw g at p.value) (rw g at p.out_after)),
+    )
