@@ -75,15 +75,10 @@ module _ (input s x t : List ℕ) (k : ℕ) (from : s ≡ drop (9 * k) input) (p
       let e : 9 * k + 9 ≡ 9 * (k + 1) = omega arith in
       (rw (← parts, from) at g.1) ∙ drop-drop 9 (9 * k) input ∙ ap (λ (n : ℕ). drop n input) e
 
--- a group is left where a byte is, and none where none is
-module _ (input s : List ℕ) (k : ℕ) (from : s ≡ drop (9 * k) input) where
-  pub one_more : 0 < length s → k + 1 ≤ groups (length input)
-  unfolding groups
-  one_more h = let e : length s ≡ length input - 9 * k = rw from (length-drop (9 * k) input) in omega arith
-
-  pub no_more : length s ≡ 0 → k ≤ groups (length input) → k ≡ groups (length input)
-  unfolding groups
-  no_more z h = let e : length s ≡ length input - 9 * k = rw from (length-drop (9 * k) input) in omega arith
+-- a group is left where a byte is
+pub one_more : (input s : List ℕ) (k : ℕ) → s ≡ drop (9 * k) input → 0 < length s → k + 1 ≤ groups (length input)
+unfolding groups
+one_more input s k from h = let e : length s ≡ length input - 9 * k = rw from (length-drop (9 * k) input) in omega arith
 
 -- one more line put down after the first k
 module _ (input start out : List ℕ) (k to : ℕ) (at : to ≡ length (text_of input k)) (so_far : out ≡ in_room (text_of input k) start) where

@@ -1,6 +1,6 @@
-use Rattle.std.proofs.Common.{rules, ◌≡◌, ◌+◌, length, length-append, List, [], ◌∷◌, ◌++◌, refl, ◌∙◌}
+use Rattle.std.proofs.Common.{rules, ◌≡◌, ◌+◌, length, length-append, [], ◌∷◌, ◌++◌, refl, ◌∙◌}
 use Rattle.facts.proofs.Rooms.{room_nothing}
-use Rattle.reach.specs.Text.{text_of, group_line}
+use Rattle.reach.specs.Text.{text_of}
 use Rattle.reach.proofs.Laws.{next_length_lem, next_out, piece_is, rest_is, one_more}
 use Rattle.reach.proofs.fill.Goals as goal
 
