@@ -105,6 +105,8 @@ def operand_text(operand):
         return "(int %d %d)" % (inner["width"], inner["value"])
     if word == "NumOf":
         return "(int %d %d)" % (inner[0], number_of(inner[1]))
+    if word == "SizeOf" and head(inner)[0] == "Int":
+        return "(int 64 %d)" % (inner["Int"] // 8)
     if word in ("True", "False", "Unit"):
         return word.lower()
     raise Unreadable(str(operand)[:80])

@@ -29,7 +29,9 @@ impl LineSet {
     pub fn empty() -> LineSet
         ensures { result ≡ set_of (λ (L : ℕ). false) }
     {
-        LineSet { words: [0; 4] }
+        LineSet {
+            words: [0, 0, 0, 0],
+        }
     }
 
     // The lines that a frame rate shows.

@@ -33,6 +33,13 @@ pub fn table_index(table: u8) -> usize
     index(table / 32, 512 * (table % 32) as u16)
 }
 
+// Two bytes as a word, low first. (Not by from_le_bytes: draw and refresh, and all that they call, have no local array.)
+fn word(low: u8, high: u8) -> u16
+    ensures { result ≡ low + 256 * high }
+{
+    low as u16 + 256 * high as u16
+}
+
 // The word of a table's entry; a byte past the RAM's end counts as 0. A RAM of eight blocks or more holds every entry: the one
 // test of its length stands outside a loop over entries, which is then done sixteen entries at a time.
 #[tactic(auto, using(crate::proofs::Pointers::table_index_lem, crate::proofs::Pointers::entry_0_index), unfolding(crate::specs::Pointers::pointer_word))]
@@ -41,9 +48,9 @@ pub fn entry_word(ram: &[u8], table: u8, entry: u8) -> u16
 {
     let at = table_index(table) + 2 * entry as usize;
     if ram.len() < 131072 {
-        return u16::from_le_bytes([byte_at(ram, at), byte_at(ram, at + 1)]);
+        return word(byte_at(ram, at), byte_at(ram, at + 1));
     }
-    u16::from_le_bytes([ram[at], ram[at + 1]])
+    word(ram[at], ram[at + 1])
 }
 
 impl Video {
