@@ -1,7 +1,7 @@
 // Scan lines: the pointer table and its words, read and made; a line's pixels, the drawn byte, and the video registers.
 #![tactic(auto)]
 
-ghost use Rattle.std.specs.Prelude.{◌≡◌, ◌+◌, ◌*◌};
+ghost use Rattle.std.specs.Prelude.{◌≡◌, ◌+◌, ◌*◌, IfErr};
 ghost use Rattle.refusal.specs.Numbers.{answered};
 ghost use Rattle.scanline.specs.Pointers.{table_index, entry_of, entry_index, pointer_word, pointer_of, made_pointer};
 ghost use Rattle.scanline.specs.Drawing.{pixel_index, drawn_byte, video_differs};
@@ -40,17 +40,16 @@ fn word(low: u8, high: u8) -> u16
     low as u16 + 256 * high as u16
 }
 
-// The word of a table's entry; a byte past the RAM's end counts as 0. A RAM of eight blocks or more holds every entry: the one
-// test of its length stands outside a loop over entries, which is then done sixteen entries at a time.
-#[tactic(auto, using(crate::proofs::Pointers::table_index_lem, crate::proofs::Pointers::entry_0_index), unfolding(crate::specs::Pointers::pointer_word))]
+// The word of a table's entry, which is line 0's where the top line is the first.
 pub fn entry_word(ram: &[u8], table: u8, entry: u8) -> u16
     ensures { result ≡ pointer_word ram.now table 0 entry }
 {
-    let at = table_index(table) + 2 * entry as usize;
-    if ram.len() < 131072 {
-        return word(byte_at(ram, at), byte_at(ram, at + 1));
+    Video {
+        table,
+        top: 0,
+        control: 0,
     }
-    word(ram[at], ram[at + 1])
+    .pointer_word(ram, entry)
 }
 
 impl Video {
@@ -70,12 +69,17 @@ impl Video {
         table_index(self.table) + 2 * self.entry(line) as usize
     }
 
-    // The pointer word of a line.
-    #[tactic(auto, using(crate::proofs::Pointers::word_by_entry))]
+    // The pointer word of a line; a byte past the RAM's end counts as 0. A RAM of eight blocks or more holds every entry: the
+    // one test of its length stands outside a loop over entries, which is then done sixteen entries at a time.
+    #[tactic(auto, using(crate::proofs::Pointers::entry_index_lt), unfolding(crate::specs::Pointers::pointer_word))]
     pub fn pointer_word(self, ram: &[u8], line: u8) -> u16
         ensures { result ≡ pointer_word ram.now self.table self.top line }
     {
-        entry_word(ram, self.table, self.entry(line))
+        let at = self.entry_index(line);
+        if ram.len() < 131072 {
+            return word(byte_at(ram, at), byte_at(ram, at + 1));
+        }
+        word(ram[at], ram[at + 1])
     }
 }
 
@@ -94,7 +98,8 @@ pub fn read_pointer(word: u16) -> Pointer
 // The pointer word of a block and a start, which `read_pointer` takes back to them.
 #[tactic(auto, unfolding(crate::specs::Pointers::made_pointer, crate::specs::Pointers::pointer_refusal, crate::specs::Pointers::word_of, refusal::specs::Numbers::answered, refusal::specs::Numbers::named))]
 pub fn make_pointer(p: Pointer) -> Result<u16, Refusal>
-    ensures { result ≡ answered (made_pointer p).refusal (made_pointer p).word }
+    ensures value { result ≡ answered (made_pointer p).refusal (made_pointer p).word }
+    ensures none { IfErr result (λ r. (made_pointer p).word ≡ 0) }
 {
     if p.block > 7 || p.start > 16383 || p.start / 8 % 2 == 1 {
         return Err(Refusal::BadNumber);
