@@ -10,6 +10,10 @@ use lib.ListN.{length, get_or, take, drop}
 use lib.Seq.{get_or-drop, drop-cons, drop-drop, take-add}
 use Rattle.byte_rows.specs.Numbers.{number4, at4}
 
+pub number_length : (n : ℕ) → length (number4 n) ≡ 4
+unfolding number4
+number_length n = refl
+
 -- written and read back
 nested : (n p q r : ℕ) → p ≡ n / 256 → q ≡ p / 256 → r ≡ q / 256 → n < 4294967296 → n % 256 + 256 * (p % 256) + 65536 * (q % 256) + 16777216 * (r % 256) ≡ n
 nested n p q r e f g h = omega arith

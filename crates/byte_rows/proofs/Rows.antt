@@ -7,10 +7,10 @@ use native.Mathlib.Omega.{arith}
 use mathlib.Core.Path.{◌≡◌, refl, sym, ap, ◌∙◌}
 use mathlib.Core.Bool.{Bool, true, false}
 use mathlib.Core.List.{List, [], ◌∷◌, ◌++◌, append_assoc}
-use borrow.Author.Tests.{ltb-true, ltb-false, le-leb}
-use lib.Dec.{ltb}
+use borrow.Author.Tests.{ltb-true, ltb-false, le-leb, lt-leb, leb-true, leb-false}
+use lib.Dec.{ltb, leb}
 use lib.ListN.{length, get_or, set, take, drop, length-append, length-drop}
-use lib.Seq.{paste, paste-zero, paste-suc, sets-eq, take_at, drop_at, take-add, take-length, take_all, drop-append-add, drop-drop, length-take-le, ext_get_or, get_or-take, get_or-drop}
+use lib.Seq.{paste, paste-zero, length-paste, paste-suc, sets-eq, take_at, drop_at, take-add, take-length, take_all, drop-append-add, drop-drop, length-take-le, ext_get_or, get_or-take, get_or-drop}
 use Rattle.facts.specs.Lists.{in_room}
 use Rattle.facts.proofs.Rooms.{room_step}
 use Rattle.byte_rows.specs.Rows.{rows, zeros, put, copied}
@@ -145,6 +145,10 @@ unfolding pasted
 pasted_start d to s = paste-zero d to s
 
 module _ (d s : List ℕ) (to i : ℕ) (out : List ℕ) (is : out ≡ pasted d to s i) where
+  pub pasted_length : to + length s ≤ length d → i ≤ length s → length out ≡ length d
+  unfolding pasted
+  pasted_length h l = ap length is ∙ length-paste d to s i (omega arith) l
+
   pub pasted_turn : (v : ℕ) → v ≡ get_or s i 0 → to + length s ≤ length d → i < length s → set out (to + i) v ≡ pasted d to s (i + 1)
   unfolding pasted
   pasted_turn v e h l = rw (e, is, add-one) (paste-suc d to s i 0 (omega arith) l)
@@ -156,7 +160,22 @@ module _ (d s : List ℕ) (to i : ℕ) (out : List ℕ) (is : out ≡ pasted d t
 pub room_put_at : (t x out : List ℕ) (at : ℕ) → at ≡ length t → put (in_room t out) at x ≡ in_room (t ++ x) out
 room_put_at t x out at e = rw e (room_put t x out)
 
+-- whether n fit from an index on, with no sum to make
+pub fits_not : (to n size : ℕ) → size < n → false ≡ leb (to + n) size
+fits_not to n size h = sym (lt-leb (to + n) size (omega arith))
+
+pub fits_test : (to n size : ℕ) → n ≤ size → leb to (size - n) ≡ leb (to + n) size
+fits_test to n size h = go (leb (to + n) size) refl
+  where
+    go : (b : Bool) → leb (to + n) size ≡ b → leb to (size - n) ≡ b
+    go true e = le-leb to (size - n) (omega (arith, leb-true (to + n) size e))
+    go false e = lt-leb to (size - n) (omega (arith, leb-false (to + n) size e))
+
 -- what fits is put there
 pub copied_fits : (out : List ℕ) (to : ℕ) (x : List ℕ) → to + length x ≤ length out → copied out to x ≡ put out to x
 unfolding copied
 copied_fits out to x h = rw (le-leb (to + length x) (length out) h)
+
+pub copied_not : (out : List ℕ) (to : ℕ) (x : List ℕ) → leb (to + length x) (length out) ≡ false → out ≡ copied out to x
+unfolding copied
+copied_not out to x h = rw h

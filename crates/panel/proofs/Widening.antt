@@ -1,6 +1,6 @@
 -- Laws of a line widened: a byte from its pixels and back, a list from its rule, and each pixel twice.
 -- Assumes nothing.
-use mathlib.Core.Path.{◌≡◌, sym, ◌∙◌}
+use mathlib.Core.Path.{◌≡◌, refl, ap, sym, ◌∙◌}
 use mathlib.Core.List.{List}
 use Prim.Native.Nat.{ℕ, zero, suc, ◌+◌, ◌-◌, ◌*◌, ◌/◌, ◌%◌, ◌^◌, ◌≤◌, ◌<◌}
 use native.Mathlib.Nat.{div-div-eq-div-mul, eq-or-lt_of_le, le_of_suc-le-suc, not-suc-le-zero, pow-succ'}
@@ -11,7 +11,7 @@ use Rattle.std.specs.Int.{to_be_bytes, w16}
 use lib.ListN.{length, get_or, set, length-set}
 use lib.Seq.{ext_get_or}
 use Rattle.facts.proofs.Filled.{Filled, filled_more}
-use Rattle.panel.specs.Widen.{pixel_of, digits, byte_of, doubled_byte, widened_at, widened, pixel_in}
+use Rattle.panel.specs.Widen.{pixel_of, digits, byte_of, doubled_byte, doubled_pair, tabulate, widened_at, widened, pixel_in}
 use Rattle.panel.proofs.Table.{length_tabulate, entry}
 
 pixel_small : (b k : ℕ) → pixel_of b k < 2
@@ -88,6 +88,17 @@ pub widened_small : (line : List ℕ) (i : ℕ) → widened_at line i < 256
 unfolding widened_at
 widened_small line i = doubled_small (get_or line (i / 2) 0) (i % 2)
 
+-- the two bytes of a pair that stands in the table
+pub pair_bytes : (line table : List ℕ) (i : ℕ) → get_or line i 0 < 256 → table ≡ tabulate doubled_pair 0 256
+    → (get_or table (get_or line i 0) 0 / 256 ≡ widened_at line (2 * i)) × (get_or table (get_or line i 0) 0 % 256 ≡ widened_at line (2 * i + 1))
+unfolding doubled_pair
+pair_bytes line table i h e =
+    let pair : get_or table (get_or line i 0) 0 ≡ doubled_byte (get_or line i 0) 0 * 256 + doubled_byte (get_or line i 0) 1 = ap (λ (t : List ℕ). get_or t (get_or line i 0) 0) e ∙ entry doubled_pair 256 (get_or line i 0) h in
+    let small = doubled_small (get_or line i 0) 1 in (
+      omega (arith, side line (2 * i) i 0 (omega arith) (omega arith)),
+      omega (arith, side line (2 * i + 1) i 1 (omega arith) (omega arith)),
+    )
+
 -- the wide line with the two bytes of byte i written
 pub filled_pair : (line out pair : List ℕ) (i both : ℕ) → i < 90 → length out ≡ 180 → pair ≡ to_be_bytes w16 both
     → both ≡ doubled_byte (get_or line i 0) 0 * 256 + doubled_byte (get_or line i 0) 1 → Filled (widened_at line) out (2 * i)
@@ -99,6 +110,37 @@ filled_pair line out pair i both h l e d f =
     rw (next, e)
     (filled_more (widened_at line) (set out (2 * i) (both / 256 % 256)) (2 * i + 1) (both % 256) (simp length-set (omega arith)) (omega (arith, side line (2 * i + 1) i 1 (omega arith) (omega arith)))
     (filled_more (widened_at line) out (2 * i) (both / 256 % 256) (omega arith) (omega (arith, side line (2 * i) i 0 (omega arith) (omega arith))) f))
+
+-- the wide line with bytes 2 * n and 2 * n + 1 written
+filled_two : (line out out' : List ℕ) (n : ℕ) → n < 90 → length out ≡ 180
+    → out' ≡ set (set out (2 * n) (widened_at line (2 * n))) (2 * n + 1) (widened_at line (2 * n + 1))
+    → Filled (widened_at line) out (2 * n) → (length out' ≡ 180) × Filled (widened_at line) out' (2 * (n + 1))
+filled_two line out out' n h l e f = rw (e, next) (
+  simp length-set l,
+  filled_more (widened_at line) (set out (2 * n) (widened_at line (2 * n))) (2 * n + 1) (widened_at line (2 * n + 1)) (simp length-set (omega arith)) refl
+      (filled_more (widened_at line) out (2 * n) (widened_at line (2 * n)) (omega arith) refl f),
+)
+  where
+    next : 2 * (n + 1) ≡ 2 * n + 1 + 1
+    next = omega arith
+
+-- the pairs of three bytes
+pub filled_three :
+    (line out a b c : List ℕ) (n : ℕ) →
+    n + 3 ≤ 90 →
+    length out ≡ 180 →
+    a ≡ set (set out (2 * n) (widened_at line (2 * n))) (2 * n + 1) (widened_at line (2 * n + 1)) →
+    b ≡ set (set a (2 * (n + 1)) (widened_at line (2 * (n + 1)))) (2 * (n + 1) + 1) (widened_at line (2 * (n + 1) + 1)) →
+    c ≡ set (set b (2 * (n + 2)) (widened_at line (2 * (n + 2)))) (2 * (n + 2) + 1) (widened_at line (2 * (n + 2) + 1)) →
+    Filled (widened_at line) out (2 * n) →
+    Filled (widened_at line) c (2 * (n + 3))
+filled_three line out a b c n h l e f g q =
+    let p = filled_two line out a n (omega arith) l e q in
+    let r = filled_two line a b (n + 1) (omega arith) p.0 f p.1 in
+    let two : n + 1 + 1 ≡ n + 2 = omega arith in
+    let s = filled_two line b c (n + 2) (omega arith) r.0 g (rw two at r.1) in
+    let three : n + 2 + 1 ≡ n + 3 = omega arith in
+    rw three at s.1
 
 pub filled_all : (line out : List ℕ) (i : ℕ) → 90 ≤ i → length out ≡ 180 → Filled (widened_at line) out (2 * i) → out ≡ widened line
 unfolding Filled
