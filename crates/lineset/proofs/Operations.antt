@@ -108,7 +108,7 @@ module _ (s : LineSet) (ws : Words s) (n w : ℕ) (h : n < 256) (is : w ≡ get_
       ∙ first_past s ws (n / 64) (n % 64) (omega arith) (omega arith) (ap (λ (v : ℕ). v / 2 ^ (n % 64)) (sym is) ∙ z)
 
 module _ (s : LineSet) (ws : Words s) (i : ℕ) (h : i < 4) where
-  first_word : (get_or s.words i 0 ≡ 0 → ⊥) → first_of (member s) (64 * i) (256 - 64 * i) ≡ Some (i * 64 + count_trailing_zeros 64 (get_or s.words i 0))
+  pub first_word : (get_or s.words i 0 ≡ 0 → ⊥) → first_of (member s) (64 * i) (256 - 64 * i) ≡ Some (i * 64 + count_trailing_zeros 64 (get_or s.words i 0))
   first_word ne =
       let e : 64 * i ≡ i * 64 = omega arith in
       rw (add-zero, div-one) at (first_here s ws i 0 h (omega arith) (λ z. ne (sym (div-one (get_or s.words i 0)) ∙ z)))

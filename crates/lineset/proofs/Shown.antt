@@ -11,7 +11,7 @@ use lib.ListN.{get_or}
 use Rattle.facts.proofs.Tests.{every_at, every_all}
 use Rattle.lineset.specs.declared.LineSet.{LineSet}
 use Rattle.lineset.specs.Lines.{set_of, member, inside, shown_count, is_shown, shown_set}
-use Rattle.lineset.proofs.Sets.{Words, words_set, member_set, member_out}
+use Rattle.lineset.proofs.Sets.{Words, words_set, member_set, member_out, more_agree}
 use Rattle.lineset.proofs.Operations.{inside_all, inside_last}
 
 pub shown_at_most : (rate : ℕ) → shown_count rate ≤ 256
@@ -61,6 +61,14 @@ shown_member rate L = member_all (is_shown rate) (shown_below rate) L
 pub more_member : (d : LineSet) (x : ℕ → Bool) → Words d → ((L : ℕ) → 256 ≤ L → x L ≡ false) → (L : ℕ)
     → member (set_of (λ (M : ℕ). member d M || x M)) L ≡ (member d L || x L)
 more_member d x w h L = member_all (λ (M : ℕ). member d M || x M) (λ M l. rw (member_out d w M l, h M l)) L
+
+-- a union with the lines that a rate shows
+pub union_shown : (s t r : LineSet) (given rate : ℕ) → r ≡ set_of (λ (L : ℕ). member s L || member t L) → t ≡ shown_set given → given ≡ rate
+    → r ≡ set_of (λ (L : ℕ). member s L || is_shown rate L)
+union_shown s t r given rate e f g =
+    e
+    ∙ ap (λ (u : LineSet). set_of (λ (L : ℕ). member s L || member u L)) (f ∙ ap shown_set g)
+    ∙ more_agree s (member (shown_set rate)) (is_shown rate) (λ L l. shown_member rate L)
 
 -- a set is inside the shown lines exactly if each line of it is shown
 pub inside_at : (s : LineSet) (rate : ℕ) → inside s (shown_set rate) ≡ true → (L : ℕ) → L < 256 → member s L ≡ true → is_shown rate L ≡ true
