@@ -42,9 +42,9 @@ packed_four p from =
 
 pub hits_four :
     (hits : List ℕ) (i : ℕ) →
-    i + 4 ≤ 64 →
+    i + 4 ≤ length hits →
     (p : ℕ → Bool) →
-    ((j : ℕ) → j < 64 → get_or hits j 0 ≡ bool_byte (p j)) →
+    ((j : ℕ) → j < length hits → get_or hits j 0 ≡ bool_byte (p j)) →
     (get_or hits i 0 + 256 * get_or hits (i + 1) 0 + 65536 * get_or hits (i + 2) 0 + 16777216 * get_or hits (i + 3) 0) * 2113665 / 2097152 % 16 ≡ packed p i 4
 hits_four hits i l p f =
     rw (f i (omega arith), f (i + 1) (omega arith), f (i + 2) (omega arith), f (i + 3) (omega arith))
@@ -71,7 +71,17 @@ fours_fit i m four lo hi h f =
     let e : 16 * m + four < 2 ^ (64 - 4 * (i - 1)) = rw (n, pow-add) (omega arith) in
     (e, omega (arith, pow_mono {i = 64 - 4 * (i - 1)} {j = 64} (omega arith)))
 
+-- the loop's end
+pub fours_end : (p : ℕ → Bool) (i m : ℕ) → i ≤ 0 → m ≡ packed p (4 * i) (64 - 4 * i) → m ≡ packed p 0 64
+fours_end p i m z h =
+    let a : 4 * i ≡ 0 = omega arith in
+    h ∙ rw a
+
 -- ---- the entries of the table, in quarters of 64
+
+-- the hit of entry k of a quarter: whether an index is among its pixel bytes
+unfoldable pub hit_of : List ℕ → ℕ → ℕ → ℕ → ℕ → ℕ
+hit_of ram table quarter at k = bool_byte (pixel_touched (pointer_word ram table 0 (64 * quarter + k)) at)
 
 entry_half : (table j : ℕ) → entry_index table 0 j / 2 ≡ 256 * table + j % 256
 unfolding entry_index entry_of
@@ -141,7 +151,7 @@ module _ (ram : List ℕ) (table at : ℕ) where
       ∙ ap (λ (k : ℕ). packed (touches ram table 0 at) k 64) (add-zero (64 * quarter))
 
   -- the quarters go round after four
-  quarter_round : (q n m : ℕ) → q ≡ n % 4 → m ≡ packed (touches ram table 0 at) (64 * q) 64 → m ≡ packed (touches ram table 0 at) (64 * n) 64
+  pub quarter_round : (q n m : ℕ) → q ≡ n % 4 → m ≡ packed (touches ram table 0 at) (64 * q) 64 → m ≡ packed (touches ram table 0 at) (64 * n) 64
   quarter_round q n m r h =
       let e : 256 * (n / 4) + 64 * q ≡ 64 * n = omega arith in
       h
@@ -149,7 +159,7 @@ module _ (ram : List ℕ) (table at : ℕ) where
       ∙ ap (λ (k : ℕ). packed (touches ram table 0 at) k 64) e
 
   -- the word of 64 lines from line 64 * n on: two quarters, one behind the other, from the top line's digit on
-  lines_word :
+  pub lines_word :
       (top n low high w : ℕ) →
       low ≡ packed (touches ram table 0 at) (64 * (top / 64 + n)) 64 →
       high ≡ packed (touches ram table 0 at) (64 * (top / 64 + suc n)) 64 →

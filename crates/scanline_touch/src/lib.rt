@@ -1,7 +1,7 @@
 // The lines that a store touches. The table's entries are tested in four quarters, so that 64 bytes of stack serve for all 256.
 #![tactic(auto)]
 
-ghost use Rattle.std.specs.Prelude.{◌≡◌, ℕ, ◌+◌, ◌*◌, ◌≤◌, ◌<◌, Bool, get_or};
+ghost use Rattle.std.specs.Prelude.{◌≡◌, ℕ, ◌+◌, ◌*◌, ◌%◌, ◌≤◌, ◌<◌, Bool, get_or};
 ghost use mir.Val.{bool_byte};
 ghost use Rattle.lineset.specs.Lines.{set_of, packed};
 ghost use Rattle.scanline.specs.Pointers.{pointer_word};
@@ -89,6 +89,15 @@ fn from_digit(low: u64, high: u64, digit: u64) -> u64
     low >> digit | high << 1 << (63 - digit)
 }
 
+// The quarter behind one; behind the last comes the first.
+fn next_quarter(quarter: usize) -> usize
+    requires { quarter < 4 }
+    ensures { result ≡ (quarter + 1) % 4 }
+{
+    let next = quarter + 1;
+    next % 4
+}
+
 // The lines for which another byte at an index of the RAM changes the pointer word or a pixel byte. Line 0 has the entry `top`, and
 // after entry 255 comes entry 0. (F5 and F6 by themselves: given all of `Video`, a step keeps its whole record in memory, and a write that
 // alters nothing takes 16 % more instructions.)
@@ -115,7 +124,7 @@ fn lines_touched(ram: &[u8], table: u8, top: u8, at: usize) -> LineSet
         },
     );
     LineSet {
-        words: array::from_fn(|i| from_digit(quarters[i], quarters[(i + 1) % 4], digit)),
+        words: array::from_fn(|i| from_digit(quarters[i], quarters[next_quarter(i)], digit)),
     }
 }
 
