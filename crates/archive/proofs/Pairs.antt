@@ -2,14 +2,14 @@
 -- Assumes nothing.
 use Prim.Native.Nat.{ℕ, zero, suc, ◌+◌, ◌≤◌, ◌<◌}
 use native.Mathlib.Omega.{arith}
-use mathlib.Core.Path.{◌≡◌, refl, sym, ap}
-use mathlib.Core.Bool.{Bool, true, false, not, cond}
+use mathlib.Core.Path.{◌≡◌, refl, sym, ap, ◌∙◌}
+use mathlib.Core.Bool.{Bool, true, false, not, cond, true≢false}
 use borrow.Author.Tests.{eqb-true, eqb-false}
 use lib.Dec.{eqb}
 use Rattle.std.specs.Prelude.{Option, Some, None, is_none, MatchOption}
 use Rattle.facts.specs.Tests.{first_of}
 use Rattle.facts.proofs.Tests.{below_agree}
-use Rattle.facts.proofs.Searches.{first_nothing}
+use Rattle.facts.proofs.Searches.{first_nothing, found_at}
 use Rattle.archive.specs.Format.{Frame}
 use Rattle.archive.specs.Sound.{has_pair, is_new, fresh}
 
@@ -17,6 +17,20 @@ use Rattle.archive.specs.Sound.{has_pair, is_new, fresh}
 pub none_new : (f : ℕ → Frame) (bench number n : ℕ) → is_none (first_of (has_pair f bench number) 0 n) ≡ is_new f bench number n
 unfolding is_new
 none_new f bench number n = first_nothing (has_pair f bench number) 0 n
+
+-- the same of what a search gave
+module _ (f : ℕ → Frame) (bench number n : ℕ) (i : Option ℕ) (is : i ≡ first_of (has_pair f bench number) 0 n) where
+  pub found_there : (k : ℕ) → i ≡ Some k → false ≡ is_new f bench number n
+  found_there k e = ap is_none (sym e ∙ is) ∙ none_new f bench number n
+
+  pub found_none : i ≡ None → true ≡ is_new f bench number n
+  found_none e = ap is_none (sym e ∙ is) ∙ none_new f bench number n
+
+pub nothing_at : (k : ℕ) → ◌≡◌ {A = Option ℕ} None (Some k) → ⊥
+nothing_at k e = true≢false (ap is_none e)
+
+pub first_at : (p : ℕ → Bool) (from n k : ℕ) → first_of p from n ≡ Some k → (k < from + n) × (p k ≡ true)
+first_at p from n k e = let h = found_at p from n k e in (h.high, h.holds)
 
 none_first : (p : ℕ → Bool) (from n : ℕ) → ((k : ℕ) → from ≤ k → k < from + n → p k ≡ false) → first_of p from n ≡ None
 unfolding first_of

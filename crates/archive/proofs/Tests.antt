@@ -4,9 +4,9 @@ use Prim.Native.Nat.{ℕ, ◌+◌, ◌-◌, ◌*◌, ◌≤◌, ◌<◌}
 use native.Mathlib.Nat.{zero-add, add_assoc}
 use native.Mathlib.Omega.{arith}
 use mathlib.Core.Path.{◌≡◌, refl, sym, ◌∙◌}
-use mathlib.Core.Bool.{Bool, true, false, cond, ◌&&◌, and-false}
+use mathlib.Core.Bool.{Bool, true, false, cond, not, ◌&&◌, and-false}
 use mathlib.Core.List.{List}
-use borrow.Author.Tests.{ne_eqb, eqb-true, eqb-false, ltb-true, ltb-false, le-leb, lt-leb}
+use borrow.Author.Tests.{ne_eqb, eqb-true, eqb-false, ltb-true, ltb-false, le-leb, lt-leb, not-true, not-false}
 use lib.Dec.{eqb, ltb, leb}
 use Rattle.std.specs.Ordering.{is_le, nat_cmp}
 use Rattle.std.proofs.Common.{Less, Equal, Greater}
@@ -18,8 +18,9 @@ use Rattle.facts.proofs.Bools.{both}
 use Rattle.archive.specs.declared.numbers.Entry.{Entry}
 use Rattle.archive.specs.declared.numbers.Header.{Header}
 use Rattle.archive.specs.Format.{picture_offset}
-use Rattle.archive.specs.Sound.{header_good, header_of, header_sound, entry_of, entry_good, entry_sound, good_bench, good_shown, rest_zero, count_of, is_zero, fresh, frame_at}
-use Rattle.facts.proofs.Tests.{every_both, below_agree}
+use Rattle.archive.specs.Sound.{header_good, header_of, header_sound, sound, entry_of, entry_good, entry_sound, good_bench, good_shown, rest_zero, count_of, is_zero, fresh, frame_at}
+use Rattle.facts.proofs.Tests.{every_both, below_agree, below_fails, below_more}
+use Rattle.archive.proofs.Read.{HeaderIs, header_is}
 use Rattle.archive.proofs.Written.{shown_most}
 
 -- `cmp` answers as `<` and `==` do
@@ -30,6 +31,14 @@ is_le_cmp m n = go (ltb m n) refl (eqb m n) refl
     go true e y q = sym (le-leb m n (omega (arith, ltb-true m n e)))
     go false e true q = sym (le-leb m n (omega (arith, eqb-true m n q)))
     go false e false q = let ne : (m ≡ n → ⊥) = eqb-false m n q in sym (lt-leb m n (omega (arith, ltb-false m n e)))
+
+-- a search for a test that fails: where it is left, and a turn
+module _ (p : ℕ → Bool) (i : ℕ) (r : Bool) (is : r ≡ p i) where
+  pub search_fails : (n : ℕ) → i < n → not r ≡ true → false ≡ every p 0 n
+  search_fails n l h = sym (below_fails p n i l (sym is ∙ not-true r h))
+
+  pub search_more : every p 0 i ≡ true → not r ≡ false → every p 0 (i + 1) ≡ true
+  search_more h t = below_more p i h (sym is ∙ not-false r t)
 
 -- the bytes of a picture behind those used
 abbrev pub unshown : List ℕ → ℕ → ℕ → List ℕ
@@ -105,3 +114,16 @@ header_told a h g e is = rw (← e) (sym is)
 pub header_counts : (a : List ℕ) (h : Header) → h ≡ header_of a → h.count ≡ count_of a
 unfolding header_of count_of
 header_counts a h e = rw e
+
+-- an archive by its header and its entries
+module _ (a : List ℕ) (g : Bool) (is : g ≡ header_sound a) where
+  pub header_fails : not g ≡ true → false ≡ sound a
+  unfolding sound
+  header_fails h = rw (← is, not-true g h)
+
+  pub header_known : not g ≡ false → HeaderIs a
+  header_known h = header_is a (sym is ∙ not-false g h)
+
+  pub entries_decide : not g ≡ false → (n : ℕ) → n ≡ count_of a → (r : Bool) → r ≡ every (entry_sound a) 0 n → r ≡ sound a
+  unfolding sound
+  entries_decide h n at r e = rw (← is, not-false g h, ← at) e

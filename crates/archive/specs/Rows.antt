@@ -1,7 +1,5 @@
 -- The entries of an archive as rows of 16 bytes, for the functions of `archive`. What an entry is, `Sound.antt` says.
-use Rattle.std.specs.Prelude.{ℕ, Bool, not, ◌&&◌, List, [], eqb, get_or, take, drop}
-use Rattle.std.specs.List.{list_any}
-use Rattle.facts.specs.Tests.{every}
+use Rattle.std.specs.Prelude.{ℕ, Bool, ◌&&◌, List, [], eqb, get_or, take, drop}
 use Rattle.byte_rows.specs.Numbers.{at4}
 use Rattle.archive.specs.declared.numbers.Entry.{Entry}
 use Rattle.archive.specs.declared.numbers.Pair.{Pair}
@@ -24,13 +22,3 @@ named rows j = record { bench = at4 (get_or rows j []) 0; number = at4 (get_or r
 
 unfoldable pub same_pair : Pair → Pair → Bool
 same_pair p q = eqb p.bench q.bench && eqb p.number q.number
-
--- pair i is another than those before it; each of four pairs is
-abbrev pub no_pair : Pair
-no_pair = record { bench = 0; number = 0 }
-
-unfoldable pub is_other : List Pair → ℕ → Bool
-is_other pairs i = not (list_any (λ (p : Pair). same_pair p (get_or pairs i no_pair)) (take i pairs))
-
-unfoldable pub apart : List Pair → Bool
-apart four = every (is_other four) 0 4

@@ -28,13 +28,20 @@ pub struct Pair {
     pub number: u32,
 }
 
-// The number whose four bytes start at an index, low first.
+// A number of four bytes, low first. (Not by from_le_bytes: no function of archives has a local array.)
+fn joined(a: u8, b: u8, c: u8, d: u8) -> u32
+    ensures { result ≡ a + 256 * b + 65536 * c + 16777216 * d }
+{
+    a as u32 + 256 * (b as u32) + 65536 * (c as u32) + 16777216 * (d as u32)
+}
+
+// The number whose bytes start at an index.
 #[tactic(auto, unfolding(byte_rows::specs::Numbers::at4))]
 fn read4(a: &[u8], at: usize) -> u32
     requires { at + 4 ≤ length a.now }
     ensures { result ≡ at4 a.now at }
 {
-    u32::from_le_bytes([a[at], a[at + 1], a[at + 2], a[at + 3]])
+    joined(a[at], a[at + 1], a[at + 2], a[at + 3])
 }
 
 pub(crate) fn good_bench(n: u32) -> bool
