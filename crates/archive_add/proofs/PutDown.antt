@@ -6,17 +6,17 @@ use native.Mathlib.Numerals.{add-one}
 use native.Mathlib.Omega.{arith}
 use mathlib.Core.Path.{◌≡◌, refl, sym, ap, ◌∙◌}
 use mathlib.Core.List.{List, [], ◌∷◌, ◌++◌, append_assoc, append-nil}
-use lib.ListN.{length, get_or, take, drop, replicate, length-append, length-drop, take-append-drop, get_or-append}
+use lib.ListN.{length, take, drop, replicate, length-append, length-drop, take-append-drop, get_or-append}
 use lib.Seq.{length-take-le, get_or_at, take_all, drop-drop}
 use Rattle.facts.specs.Lists.{in_room}
 use Rattle.facts.proofs.Rooms.{room_length}
 use Rattle.byte_rows.specs.Rows.{put, copied, zeros, rows}
-use Rattle.byte_rows.proofs.Rows.{copied_fits, rest_all, rows_length, put_put, put_length, room_put_at, rows_same, rows_take, zeros_length}
+use Rattle.byte_rows.proofs.Rows.{copied_fits, rest_all, rows_length, put_put, put_start, put_length, room_put_at, rows_same, rows_take, zeros_length}
 use Rattle.archive.specs.Format.{Frame, no_frame, frame_in, archive_of, written, shown_of, entry_row, picture_row, entry, header, picture_offset}
 use Rattle.archive.specs.Sound.{frames_of, frame_at, count_of, entry_of, bench_at, number_at, shown_at}
 use Rattle.byte_rows.specs.Numbers.{number4}
 use Rattle.archive_add.specs.Adding.{frame_of}
-use Rattle.archive_add.specs.Next.{moved_row, next_entries, padded, numbers4}
+use Rattle.archive_add.specs.Next.{moved_row, next_entries, padded}
 use Rattle.archive.specs.declared.numbers.Entry.{Entry}
 use Rattle.archive.proofs.Read.{SoundIs, frames_count, frames_at, picture_at, shown_is}
 use Rattle.archive.proofs.Written.{entry_length, header_length}
@@ -35,37 +35,41 @@ put_none out to = sym (rw (append-nil, add-zero) (take-append-drop to out))
 
 -- ---- numbers
 
-number_length : (n : ℕ) → length (number4 n) ≡ 4
-unfolding number4
-number_length n = refl
+pub entry_put : (o p q r s : List ℕ) (to a b c d : ℕ) → to ≤ length o
+    → p ≡ put o to (number4 a) → q ≡ put p (to + 4) (number4 b) → r ≡ put q (to + 8) (number4 c) → s ≡ put r (to + 12) (number4 d)
+    → s ≡ put o to (entry a b c d)
+unfolding entry number4
+entry_put o p q r s to a b c d l e f g h =
+    rw (
+      h,
+      g,
+      f,
+      e,
+      put_put o to (to + 4) (number4 a) (number4 b) l refl,
+      put_put o to (to + 8) (number4 a ++ number4 b) (number4 c) l refl,
+      put_put o to (to + 12) (number4 a ++ number4 b ++ number4 c) (number4 d) l refl,
+    )
 
-pub numbers_length : (ns : List ℕ) → length (numbers4 ns) ≡ 4 * length ns
-unfolding numbers4
-numbers_length [] = refl
-numbers_length (n ∷ ns) = rw (length-append, number_length, numbers_length ns) (omega arith)
-
-numbers_more : (ns : List ℕ) (i : ℕ) → i < length ns → numbers4 (take (suc i) ns) ≡ numbers4 (take i ns) ++ number4 (get_or ns i 0)
-unfolding numbers4
-numbers_more [] i l = absurd (omega arith)
-numbers_more (n ∷ ns) zero l = rw append-nil
-numbers_more (n ∷ ns) (suc i) l = rw (numbers_more ns i (omega arith), append_assoc)
-
-pub numbers_start : (out : List ℕ) (to : ℕ) (ns : List ℕ) → out ≡ put out to (numbers4 (take 0 ns))
-unfolding numbers4
-numbers_start out to ns = put_none out to
-
-pub numbers_turn : (start out x ns : List ℕ) (to i at : ℕ) → out ≡ put start to (numbers4 (take i ns)) → x ≡ number4 (get_or ns i 0) → i < length ns → at ≡ to + 4 * i
-    → to + 4 * length ns ≤ length start → take at out ++ (x ++ drop (at + 4 - at) (drop at out)) ≡ put start to (numbers4 (take (i + 1) ns))
-numbers_turn start out x ns to i at o e l a h =
-    let n : length (take i ns) ≡ i = length-take-le i ns (omega arith) in
-    let m : at ≡ to + length (numbers4 (take i ns)) = rw (numbers_length, n) a in
-    let f : at + 4 ≡ at + length x = rw e (rw number_length) in
-    placed out x at (at + 4) f
-    ∙ rw (o, e, add-one, numbers_more ns i l)
-    (put_put start to at (numbers4 (take i ns)) (number4 (get_or ns i 0)) (omega arith) m)
-
-pub numbers_end : (start out ns : List ℕ) (to i : ℕ) → out ≡ put start to (numbers4 (take i ns)) → length ns ≤ i → out ≡ put start to (numbers4 ns)
-numbers_end start out ns to i o h = o ∙ rw (take_all i ns h)
+pub header_put : (o p q r s t : List ℕ) (n d e : ℕ) → d ≡ 20 + 16 * n → e ≡ 20 + 23056 * n
+    → p ≡ put o 0 (number4 1) → q ≡ put p 4 (number4 n) → r ≡ put q 8 (number4 20) → s ≡ put r 12 (number4 d) → t ≡ put s 16 (number4 e)
+    → t ≡ in_room (header n) o
+unfolding header number4
+header_put o p q r s t n d e k l f g h i j =
+    let z : 0 ≤ length o = omega arith in
+    rw (
+      j,
+      i,
+      h,
+      g,
+      f,
+      k,
+      l,
+      put_put o 0 4 (number4 1) (number4 n) z refl,
+      put_put o 0 8 (number4 1 ++ number4 n) (number4 20) z refl,
+      put_put o 0 12 (number4 1 ++ number4 n ++ number4 20) (number4 (20 + 16 * n)) z refl,
+      put_put o 0 16 (number4 1 ++ number4 n ++ number4 20 ++ number4 (20 + 16 * n)) (number4 (20 + 23056 * n)) z refl,
+    )
+    (put_start o (number4 1 ++ number4 n ++ number4 20 ++ number4 (20 + 16 * n) ++ number4 (20 + 23056 * n)))
 
 -- ---- the entries of the next archive
 
@@ -84,6 +88,9 @@ unfolding rows moved_row picture_offset entry_of
 moved_turn b n k start out next e h o is g =
     rw (g, o, is, add-one k)
     (put_put start 20 (20 + 16 * k) (rows (moved_row b (n + 1)) k) (entry (bench_at b k) (number_at b k) (shown_at b k) (20 + 16 * (n + 1) + 23040 * k)) h (omega (arith, moved_length b (n + 1) k)))
+
+pub moved_size : (b : List ℕ) (m k : ℕ) (start out : List ℕ) → out ≡ put start 20 (rows (moved_row b m) k) → 20 + 16 * k ≤ length start → length out ≡ length start
+moved_size b m k start out o h = ap length o ∙ put_length start 20 (rows (moved_row b m) k) (omega (arith, moved_length b m k))
 
 pub next_entries_lem : (b : List ℕ) (n bench number shown : ℕ) (o p q r : List ℕ)
     → p ≡ in_room (header (n + 1)) o → q ≡ put p 20 (rows (moved_row b (n + 1)) n)

@@ -1,7 +1,6 @@
 -- How `archive_add` puts the next archive down, for its own functions: header and entries, the old pictures, the new one. What the next
 -- archive is, `Adding.antt` says.
-use Rattle.std.specs.Prelude.{ℕ, ◌+◌, ◌-◌, List, [], ◌∷◌, ◌++◌, take}
-use Rattle.byte_rows.specs.Numbers.{number4}
+use Rattle.std.specs.Prelude.{ℕ, ◌+◌, ◌-◌, List, ◌++◌, take}
 use Rattle.byte_rows.specs.Rows.{rows, zeros}
 use Rattle.archive.specs.Format.{entry, header, picture_offset}
 use Rattle.archive.specs.Sound.{bench_at, number_at, shown_at}
@@ -17,8 +16,3 @@ next_entries a n bench number shown = header (n + 1) ++ rows (moved_row a (n + 1
 -- the shown lines of a picture, and zeros
 unfoldable pub padded : List ℕ → ℕ → List ℕ
 padded picture used = take used picture ++ zeros (23040 - used)
-
--- numbers of four bytes one after the other
-unfoldable pub numbers4 : List ℕ → List ℕ
-numbers4 [] = []
-numbers4 (n ∷ ns) = number4 n ++ numbers4 ns

@@ -1,8 +1,7 @@
-use Rattle.byte_rows.specs.Numbers.{number4}
-use Rattle.archive.specs.Format.{entry}
-use Rattle.archive_add.specs.Next.{numbers4}
+use Rattle.std.proofs.Common.{arith}
+use Rattle.archive_add.proofs.PutDown.{entry_put}
 use Rattle.archive_add.proofs.parts.put_entry.Goals as goal
 
 pub returns : goal.returns
-unfolding entry number4 numbers4
-returns c = c.put_numbers.ensures
+returns c =
+    entry_put _ _ _ _ _ _ _ _ _ _ (omega arith) c.write4.ensures c.write4-2.ensures c.write4-3.ensures c.write4-4.ensures

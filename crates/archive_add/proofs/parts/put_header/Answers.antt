@@ -1,10 +1,7 @@
-use Rattle.std.proofs.Common.{◌∙◌}
-use Rattle.byte_rows.specs.Numbers.{number4}
-use Rattle.byte_rows.proofs.Rows.{put_start}
-use Rattle.archive.specs.Format.{header}
-use Rattle.archive_add.specs.Next.{numbers4}
+use Rattle.std.proofs.Common.{refl}
+use Rattle.archive_add.proofs.PutDown.{header_put}
 use Rattle.archive_add.proofs.parts.put_header.Goals as goal
 
 pub returns : goal.returns
-unfolding header number4 numbers4
-returns c = c.put_numbers.ensures ∙ put_start _ _
+returns c =
+    header_put _ _ _ _ _ _ _ _ _ refl refl c.write4.ensures c.write4-2.ensures c.write4-3.ensures c.write4-4.ensures c.write4-5.ensures
