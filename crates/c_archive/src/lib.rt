@@ -28,12 +28,13 @@ fn refused(refusal: Refusal) -> u64
     reply(0, refusal.into(), 0)
 }
 
-fn count_or_refusal(answer: Result<u32, Refusal>) -> u64
-    ensures { MatchResult answer (λ n. result ≡ reply n 0 0) (λ r. result ≡ reply 0 (number r) 0) }
+// An answer's value and refusal number; where it is refused, what its caller gives for the value that is left unsaid.
+fn parts<T: Copy>(answer: Result<T, Refusal>, unsaid: T) -> (T, u8)
+    ensures { MatchResult answer (λ x. result ≡ (x, 0)) (λ r. result ≡ (unsaid, number r)) }
 {
     match answer {
-        Ok(count) => reply(count as u64, 0, 0),
-        Err(refusal) => refused(refusal),
+        Ok(value) => (value, 0),
+        Err(refusal) => (unsaid, refusal.into()),
     }
 }
 
@@ -41,7 +42,8 @@ fn written_reply(written: Result<usize, Refusal>) -> u64
     requires { IfOk written (λ n. n ≤ 4294967295) }
     ensures { MatchResult written (λ n. result ≡ reply n 0 0) (λ r. result ≡ reply 0 (number r) 0) }
 {
-    count_or_refusal(written.map(|length| length as u32))
+    let (length, refusal) = parts(written, 0);
+    reply(length as u64, refusal, 0)
 }
 
 // 1 for 200 shown lines, 2 for 256.
@@ -78,7 +80,8 @@ pub fn start_reply(room: &mut [u8]) -> u64
 pub fn count_reply(a: &[u8]) -> u64
     ensures { result ≡ count_reply (count_answer a.now) }
 {
-    count_or_refusal(archive::count(a))
+    let (count, refusal) = parts(archive::count(a), 0);
+    reply(count as u64, refusal, 0)
 }
 
 pub fn entry_reply(a: &[u8], k: u32) -> u64
@@ -91,10 +94,10 @@ pub fn find_reply(a: &[u8], bench: u32, number: u32) -> u64
     ensures { result ≡ find_reply (find_answer a.now bench number) }
 {
     let pair = Pair { bench, number };
-    match archive::find(a, pair) {
-        Ok(Some(k)) => reply(k as u64 + 1048576, 0, 0),
-        Ok(None) => reply(0, 0, 0),
-        Err(refusal) => refused(refusal),
+    let (index, refusal) = parts(archive::find(a, pair), None);
+    match index {
+        Some(k) => reply(k as u64 + 1048576, refusal, 0),
+        None => reply(0, refusal, 0),
     }
 }
 

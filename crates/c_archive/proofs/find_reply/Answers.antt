@@ -1,18 +1,24 @@
-use Rattle.std.proofs.Common.{sym, ◌∙◌, Ok, Err, arith}
+use Rattle.std.proofs.Common.{◌≡◌, ℕ, Option, Some, refl, sym, ap, ◌∙◌, arith}
+use Rattle.archive.specs.Answers.{find_answer}
 use Rattle.c_archive.specs.Replies.{index_reply}
-use Rattle.c_archive.proofs.Small.{find_is, index_small}
+use Rattle.c_archive.proofs.Small.{find_parts, find_packed, index_small}
 use Rattle.c_archive.proofs.find_reply.Goals as goal
 
 pub reply-requires : goal.reply-requires
-reply-requires c = let s = index_small _ _ _ _ c.in-Ok-Some.field-0 (sym c.in-Ok-Some.is ∙ c.find.ensures) c.in-Ok-Some.field-0-is in omega arith
+reply-requires c =
+    let f = find_parts _ _ _ _ _ c.find.ensures c.parts-index.ensures in
+    let i : (find_answer c.args.a.now c.args.bench c.args.number).index ≡ Some c.in-Some.k = sym (ap (λ (p : Option ℕ × ℕ). p.0) f) ∙ c.in-Some.is in
+    let s = index_small _ _ _ c.in-Some.k _ refl i in
+    (omega (arith, s), omega arith)
 
-pub returns-in-Ok-Some : goal.returns-in-Ok-Some
+pub returns-in-Some : goal.returns-in-Some
 unfolding index_reply
-returns-in-Ok-Some c = find_is _ _ _ (Ok c.in-Ok-Some.field-0) _ (sym c.in-Ok-Some.is ∙ c.find.ensures) (rw c.in-Ok-Some.field-0-is c.reply.ensures)
+returns-in-Some c =
+    let f = find_parts _ _ _ _ _ c.find.ensures c.parts-index.ensures in
+    find_packed _ _ _ _ _ f (c.reply.ensures ∙ sym (ap (λ (i : Option ℕ). index_reply i c.parts-index.result.1) c.in-Some.is))
 
-pub returns-in-Ok-None : goal.returns-in-Ok-None
+pub returns-in-None : goal.returns-in-None
 unfolding index_reply
-returns-in-Ok-None c = find_is _ _ _ (Ok c.in-Ok-None.field-0) _ (sym c.in-Ok-None.is ∙ c.find.ensures) (rw c.in-Ok-None.field-0-is c.reply-in-Ok-None.ensures)
-
-pub returns-in-Err : goal.returns-in-Err
-returns-in-Err c = find_is _ _ _ (Err c.in-Err.refusal) _ (sym c.in-Err.is ∙ c.find.ensures) c.refused.ensures
+returns-in-None c =
+    let f = find_parts _ _ _ _ _ c.find.ensures c.parts-index.ensures in
+    find_packed _ _ _ _ _ f (c.reply-in-None.ensures ∙ sym (ap (λ (i : Option ℕ). index_reply i c.parts-index.result.1) c.in-None.is))
