@@ -1,7 +1,7 @@
 -- What the tests of the code say of the tests of the rules.
 -- Assumes nothing.
 use Prim.Native.Nat.{ℕ, ◌+◌, ◌-◌, ◌*◌, ◌≤◌, ◌<◌}
-use native.Mathlib.Nat.{zero-add, add_assoc}
+use native.Mathlib.Nat.{zero-add}
 use native.Mathlib.Omega.{arith}
 use mathlib.Core.Path.{◌≡◌, refl, sym, ◌∙◌}
 use mathlib.Core.Bool.{Bool, true, false, cond, not, ◌&&◌, and-false}
@@ -12,7 +12,6 @@ use Rattle.std.specs.Ordering.{is_le, nat_cmp}
 use Rattle.std.proofs.Common.{Less, Equal, Greater}
 use lib.ListN.{length, get_or, take, drop, length-drop}
 use lib.Seq.{length-take-le, get_or-take, get_or-drop}
-use Rattle.byte_rows.proofs.Rows.{rest_all}
 use Rattle.facts.specs.Tests.{every}
 use Rattle.facts.proofs.Bools.{both}
 use Rattle.archive.specs.declared.numbers.Entry.{Entry}
@@ -42,21 +41,17 @@ module _ (p : ℕ → Bool) (i : ℕ) (r : Bool) (is : r ≡ p i) where
 
 -- the bytes of a picture behind those used
 abbrev pub unshown : List ℕ → ℕ → ℕ → List ℕ
-unshown a f used =
-    let p : List ℕ = take (f + 23040 - f) (drop f a) in
-    take (length p - used) (drop used p)
-
-pub picture_length : (a : List ℕ) (f : ℕ) → f + 23040 ≤ length a → length (take (f + 23040 - f) (drop f a)) ≡ 23040
-picture_length a f l = length-take-le (f + 23040 - f) (drop f a) (simp length-drop (omega arith)) ∙ omega arith
+unshown a f used = take (f + used + (23040 - used) - (f + used)) (drop (f + used) a)
 
 module _ (a : List ℕ) (f used : ℕ) (u : used ≤ 23040) (l : f + 23040 ≤ length a) where
   unshown_length : length (unshown a f used) ≡ 23040 - used
-  unshown_length = rw rest_all (simp length-drop (rw (picture_length a f l)))
+  unshown_length =
+      length-take-le (f + used + (23040 - used) - (f + used)) (drop (f + used) a) (simp length-drop (omega arith)) ∙ omega arith
 
   unshown_at : (i : ℕ) → i < 23040 - used → get_or (unshown a f used) i 0 ≡ get_or a (f + used + i) 0
   unshown_at i o =
-      let w : used + i < f + 23040 - f = omega arith in
-      rw (rest_all, get_or-drop used (take (f + 23040 - f) (drop f a)) i 0, get_or-take (f + 23040 - f) (drop f a) (used + i) 0 w, get_or-drop f a (used + i) 0, add_assoc)
+      let w : i < f + used + (23040 - used) - (f + used) = omega arith in
+      rw (get_or-take (f + used + (23040 - used) - (f + used)) (drop (f + used) a) i 0 w, get_or-drop (f + used) a i 0)
 
 -- the fields and the picture of an entry of an archive whose header is sound
 abbrev pub row_sound : List ℕ → ℕ → Bool

@@ -76,8 +76,9 @@ impl<'a> Layout<'a> {
         if !e.is_good(from) {
             return false;
         }
-        let picture = &self.bytes[from..from + 23040];
-        all_zero(&picture[e.shown as usize * 90..])
+        let used = e.shown as usize * 90;
+        let start = from + used;
+        all_zero(&self.bytes[start..start + (23040 - used)])
     }
 
     // Its entries and pictures.
