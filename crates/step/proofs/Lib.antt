@@ -1,2 +1,3 @@
 mod Answers
 mod Does
+pub mod Plain

@@ -24,7 +24,7 @@ use Rattle.refusal.specs.Numbers.{named, answered}
 use Rattle.step_rules.specs.declared.Step.{Step}
 use Rattle.step_rules.specs.Ports.{decoded_in, decoded_out}
 use Rattle.step_rules.specs.After.{video_after, ram_after, parts_after, board_after}
-use Rattle.step_rules.specs.Answers.{boot_fits, length_refusal, kind_refusal, stream_ended, state_refusal, lent_refusal, own_refusal, step_refusal, step_outcome, nmi_line, nmi_shown, accepted_answer, refused_answer, step_answer, step_ram, told, step_effect, effect_ram, answer_of}
+use Rattle.step_rules.specs.Answers.{boot_fits, length_refusal, kind_refusal, stream_ended, state_refusal, lent_refusal, own_refusal, step_refusal, step_outcome, nmi_line, nmi_shown, accepted_answer, refused_answer, step_answer, step_ram, told, accepts, refuses, step_effect, effect_ram, answer_of}
 use Rattle.step_rules.proofs.ByKind.{on_key_lem, on_in_lem, on_out_lem}
 
 -- what record and buffers that are found good tell
@@ -56,13 +56,13 @@ own_known b n s =
 
 -- where no NMI stands, the lines that are shown and the record are those of a refusal
 answer_refused : (b : Board) (n : ℕ) → (eqb b.disc.route 1 && eqb b.disc.line 1) ≡ false → eqb n 1 ≡ false → eqb n 0 ≡ false
-    → answer_of (record { board = b; outcome = Err (named n) }) ≡ told (refused_answer b n)
+    → answer_of (refuses b n) ≡ told (refused_answer b n)
 unfolding answer_of refused_answer nmi_shown nmi_line answered
 answer_refused b n e f g = rw (e, f, g)
 
 module _ (b : Board) (ram boot : List ℕ) (s : Step) where
   -- the refusals of the kind itself
-  pub own_accepted : own_refusal b (length boot) s ≡ 0 → record { board = board_after b ram s; outcome = Ok (step_outcome b ram boot s) } ≡ step_effect b ram boot s
+  pub own_accepted : own_refusal b (length boot) s ≡ 0 → accepts (board_after b ram s) (step_outcome b ram boot s) ≡ step_effect b ram boot s
   unfolding step_effect answered
   own_accepted e = rw e
 
@@ -70,7 +70,7 @@ module _ (b : Board) (ram boot : List ℕ) (s : Step) where
   unfolding effect_ram
   own_ram e = rw e
 
-  pub own_refused : (n : ℕ) → own_refusal b (length boot) s ≡ n → (n ≡ 0 → ⊥) → record { board = b; outcome = Err (named n) } ≡ step_effect b ram boot s
+  pub own_refused : (n : ℕ) → own_refusal b (length boot) s ≡ n → (n ≡ 0 → ⊥) → refuses b n ≡ step_effect b ram boot s
   unfolding step_effect answered
   own_refused n e ne = rw (e, ne_eqb n 0 ne)
 
@@ -101,7 +101,7 @@ module _ (b : Board) (ram boot : List ℕ) (s : Step) where
     where
       go : (t : Bool)
           → (eqb (own_refusal b (length boot) s) 0 ≡ false
-          → answer_of (record { board = b; outcome = Err (named (own_refusal b (length boot) s)) }) ≡ told (refused_answer b (own_refusal b (length boot) s)))
+          → answer_of (refuses b (own_refusal b (length boot) s)) ≡ told (refused_answer b (own_refusal b (length boot) s)))
           → eqb (own_refusal b (length boot) s) 0 ≡ t
           → answer_of (record { board = cond t (board_after b ram s) b; outcome = cond t (Ok (step_outcome b ram boot s)) (Err (named (own_refusal b (length boot) s))) })
           ≡ told (cond t (accepted_answer (board_after b ram s) (step_outcome b ram boot s)) (refused_answer b (own_refusal b (length boot) s)))
@@ -123,6 +123,10 @@ module _ (b : Board) (ram boot : List ℕ) (s : Step) where
   -- a refusal of the kind is known only of a good record
   pub own_other : lent_refusal b (length ram) (length boot) ≡ 0 → eqb (step_refusal b ram boot s) 1 ≡ false
   own_other e = rw (own_first e) (own_known b (length boot) s)
+
+  pub step_kept : (n : ℕ) → lent_refusal b (length ram) (length boot) ≡ n → (n ≡ 0 → ⊥) → ram ≡ step_ram b ram boot s
+  unfolding step_ram step_refusal
+  step_kept n e ne = rw (first_first _ (own_refusal b (length boot) s) n e ne, ne_eqb n 0 ne)
 
   -- a step that keeps RAM and video registers marks nothing
   pub plain : ram_after b.sizes b.paging ram s ≡ ram → video_after b.video s ≡ b.video → Words b.dirty → board_after b ram s ≡ parts_after b s

@@ -1,6 +1,6 @@
 -- What a step answers, and when it is refused: document 01, "Steps" and "Refusal numbers".
-use Rattle.std.specs.Prelude.{ℕ, Bool, false, cond, not, ◌&&◌, ◌||◌, List, [], ◌∷◌, eqb, leb, get_or, length}
-use Rattle.refusal.specs.Numbers.{answered}
+use Rattle.std.specs.Prelude.{ℕ, Bool, false, cond, not, ◌&&◌, ◌||◌, List, [], ◌∷◌, eqb, leb, get_or, length, Ok, Err}
+use Rattle.refusal.specs.Numbers.{named, answered}
 use Rattle.paging.specs.declared.Sizes.{Sizes}
 use Rattle.paging.specs.Maps.{ram_fits}
 use Rattle.paging.specs.Memory.{read_index}
@@ -133,6 +133,13 @@ told_reply r = record { outcome = answered r.refusal (record { byte = r.byte; fo
 
 abbrev pub told : Answer → declared_answer.Answer
 told a = record { board = a.board; reply = told_reply a.reply }
+
+-- accepted with an outcome, or refused by a number: the record stays
+abbrev pub accepts : Board → Outcome → Effect
+accepts b outcome = record { board = b; outcome = Ok outcome }
+
+abbrev pub refuses : Board → ℕ → Effect
+refuses b number = record { board = b; outcome = Err (named number) }
 
 -- what a kind does once record and buffers are found good, before the lines are looked at; refused, it leaves the record
 unfoldable pub step_effect : Board → List ℕ → List ℕ → Step → Effect
