@@ -4,7 +4,7 @@ use Prim.Native.Nat.{ℕ, suc, ◌+◌, ◌-◌, ◌*◌, ◌/◌, ◌%◌, ◌^
 use native.Mathlib.Numerals.{add-one}
 use native.Mathlib.Omega.{arith}
 use mathlib.Core.Path.{◌≡◌, refl, sym, ◌∙◌, ap}
-use lib.Bits.{bit_xor, xor_add_and, and_le_l, and_le_r}
+use lib.Bits.{bit_or, bit_xor, xor_add_and, and_le_l, and_le_r}
 use mathlib.Core.Bool.{Bool, true, false}
 use borrow.Author.Tests.{eqb-true, eqb-false}
 use lib.Dec.{eqb}
@@ -14,7 +14,12 @@ use Rattle.std.specs.Int.Bits.{xor_self}
 use Rattle.std.proofs.lemmas.Nat.{xor_shr, xor_lt, leading_top, shl-shr}
 use Rattle.std.proofs.Math.Nat.{div-eq_of_lt}
 use Rattle.std.proofs.Math.Pow.{shr_mono}
+use borrow.Author.Count.{below_more}
+use lib.ListN.{get_or}
+use mathlib.Core.List.{List}
+use Rattle.facts.proofs.Bits.{or_zero}
 use Rattle.panel.specs.Widen.{pixel_of}
+use Rattle.picture_compare.specs.Differences.{AlikeFrom}
 
 half : (x j : ℕ) → x / 2 ^ suc j ≡ x / 2 ^ j / 2
 half x j = ap (λ (m : ℕ). x / 2 ^ m) (sym (add-one j)) ∙ sym (shr-shr x j 1)
@@ -25,12 +30,35 @@ next_digit x y j h d = let e : x / 2 ^ j / 2 ≡ y / 2 ^ j / 2 = sym (half x j) 
 xor_zero : (a b : ℕ) → bit_xor a b ≡ 0 → a ≡ b
 xor_zero a b e = omega (arith, xor_add_and a b, and_le_l a b, and_le_r a b)
 
+-- from the left: k equal pixels are equal numbers above the other 8 - k
+pub pixels_start : (x y : ℕ) → x < 256 → y < 256 → x / 2 ^ (8 - 0) ≡ y / 2 ^ (8 - 0)
+pixels_start x y h l = omega arith
+
+pub pixels_next : (x y k : ℕ) → k ≤ 7 → x / 2 ^ (8 - k) ≡ y / 2 ^ (8 - k) → pixel_of x k ≡ pixel_of y k → x / 2 ^ (8 - (k + 1)) ≡ y / 2 ^ (8 - (k + 1))
+unfolding pixel_of
+pixels_next x y k h e d =
+    let s : 8 - k ≡ suc (7 - k) = omega arith in
+    let t : 8 - (k + 1) ≡ 7 - k = omega arith in
+    rw t (next_digit x y (7 - k) (rw s at e) d)
+
+-- one byte more, of which no bit differs
+pub from_next : (a b : List ℕ) (first i found : ℕ) → (found ≡ 0 → AlikeFrom a b first i)
+    → bit_or found (bit_xor (get_or a (first + i) 0) (get_or b (first + i) 0)) ≡ 0 → AlikeFrom a b first (i + 1)
+from_next a b first i found h e =
+    let z = or_zero found (bit_xor (get_or a (first + i) 0) (get_or b (first + i) 0)) e in
+    below_more (λ m. get_or a (first + m) 0 ≡ get_or b (first + m) 0) i (h z.0) (xor_zero (get_or a (first + i) 0) (get_or b (first + i) 0) z.1)
+
 -- pixels above a bit from which on the bytes are the same
-pixels_before : (x y k j : ℕ) → k ≤ 8 → x / 2 ^ (8 - k) ≡ y / 2 ^ (8 - k) → j < k → pixel_of x j ≡ pixel_of y j
+pub pixels_before : (x y k j : ℕ) → k ≤ 8 → x / 2 ^ (8 - k) ≡ y / 2 ^ (8 - k) → j < k → pixel_of x j ≡ pixel_of y j
 unfolding pixel_of
 pixels_before x y k j h e l =
     let s : 7 - j ≡ 8 - k + (k - suc j) = omega arith in
     rw (s, ← shr-shr x (8 - k) (k - suc j), ← shr-shr y (8 - k) (k - suc j), e)
+
+-- the last pixel of two unequal bytes, the others equal
+pub last_pixel : (x y : ℕ) → (x ≡ y → ⊥) → x / 2 ^ (8 - 7) ≡ y / 2 ^ (8 - 7) → pixel_of x 7 ≡ pixel_of y 7 → ⊥
+unfolding pixel_of
+last_pixel x y ne e d = ne (omega arith)
 
 -- the zeros before the top bit in which two unequal bytes differ are the pixels before the first in which they do
 module _ (x y : ℕ) (x_byte : x < 256) (y_byte : y < 256) (unlike : x ≡ y → ⊥) where

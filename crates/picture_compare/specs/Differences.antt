@@ -1,6 +1,6 @@
 -- The first place where two pictures differ. Document 01, "Scan lines".
 -- A picture is 256 lines of 90 bytes, 23,040 bytes, leftmost pixel in the top bit.
-use Rattle.std.specs.Prelude.{ℕ, zero, suc, ◌/◌, ◌%◌, Bool, cond, not, ◌&&◌, List, Option, None, Some, eqb, length}
+use Rattle.std.specs.Prelude.{ℕ, zero, suc, ◌+◌, ◌<◌, ◌/◌, ◌%◌, ◌≡◌, Bool, cond, not, ◌&&◌, List, Option, None, Some, eqb, length, get_or}
 use Rattle.panel.specs.Widen.{pixel_in}
 use Rattle.scanline.specs.Drawing.{picture_fits}
 use Rattle.picture_compare.specs.declared.Position.{Position}
@@ -24,3 +24,7 @@ unfoldable pub difference_answer : List ℕ → List ℕ → Difference
 difference_answer a b =
     cond (picture_fits (length a) && picture_fits (length b)) (record { position = first_difference a b; refusal = 0 })
     (record { position = None; refusal = 2 })
+
+-- n bytes from `first` on are the same in two lists
+abbrev pub AlikeFrom : List ℕ → List ℕ → ℕ → ℕ → Type 0
+AlikeFrom a b first n = (m : ℕ) → m < n → get_or a (first + m) 0 ≡ get_or b (first + m) 0

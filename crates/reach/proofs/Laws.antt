@@ -2,13 +2,13 @@
 use Prim.Native.Nat.{ℕ, zero, suc, ◌+◌, ◌*◌, ◌/◌, ◌-◌, ◌≤◌, ◌<◌, min}
 use mathlib.Core.Path.{◌≡◌, refl, sym, ap, ◌∙◌}
 use mathlib.Core.List.{List, ◌++◌}
-use mathlib.Core.Bool.{Bool, true, false, cond}
+use mathlib.Core.Bool.{Bool, true, false, not, cond}
 use native.Mathlib.Omega.{arith}
 use native.Mathlib.Numerals.{add-one}
-use borrow.Author.Tests.{lt-ltb, le-ltb, ltb-false, leb-true, leb-false}
+use borrow.Author.Tests.{not-true, not-false, lt-ltb, le-ltb, ltb-false, leb-true, leb-false}
 use lib.Dec.{ltb, leb, lit≤}
-use lib.ListN.{length, take, drop, length-append, length-drop}
-use lib.Seq.{take_all, drop-drop, take-append_seam, drop-append_seam}
+use lib.ListN.{length, take, drop, length-append, length-take, length-drop}
+use lib.Seq.{paste, length-take-le, take_all, drop-drop, take-append_seam, drop-append_seam}
 use Rattle.facts.specs.Lists.{in_room}
 use Rattle.facts.proofs.Rooms.{room_length, room_step}
 use Rattle.paging.specs.Maps.{allowed}
@@ -18,6 +18,24 @@ use Rattle.refusal.specs.declared.Refusal.{Refusal}
 use Rattle.refusal.specs.declared.Refusal.TheVariants.{BadLength}
 use Rattle.reach.specs.Text.{sizes_of, paging_of, address_of, reach_line, refusal_line, whole_line, group_line}
 use Rattle.reach.specs.Text.{hex2, hex4, line_at, text_of, groups, reach_text, listed, listed_out}
+
+module _ (g : List ℕ) (b : Bool) (e : b ≡ allowed (sizes_of g)) where
+  pub whole_refused : not b ≡ true → refusal_line 6 ≡ whole_line g
+  unfolding whole_line
+  whole_refused h = rw (← e, not-true b h)
+
+  pub whole_reached : not b ≡ false → reach_line (sizes_of g) (paging_of g) (address_of g) ≡ whole_line g
+  unfolding whole_line
+  whole_reached h = rw (← e, not-false b h)
+
+module _ (input : List ℕ) (at : ℕ) where
+  pub group_short : length input - at < 9 → refusal_line 2 ≡ group_line (take 9 (drop at input))
+  unfolding group_line
+  group_short h = rw (lt-ltb (length (take 9 (drop at input))) 9 (simp (length-take, length-drop) (omega arith)))
+
+  pub group_whole : 9 ≤ length input - at → whole_line (take 9 (drop at input)) ≡ group_line (take 9 (drop at input))
+  unfolding group_line
+  group_whole h = rw (le-ltb (length (take 9 (drop at input))) 9 (simp (length-take, length-drop) (omega arith)))
 
 -- a line has at most 20 bytes
 reach_line_length : (g : List ℕ) → length (reach_line (sizes_of g) (paging_of g) (address_of g)) ≡ 20
@@ -79,6 +97,14 @@ module _ (input s x t : List ℕ) (k : ℕ) (from : s ≡ drop (9 * k) input) (p
 pub one_more : (input s : List ℕ) (k : ℕ) → s ≡ drop (9 * k) input → 0 < length s → k + 1 ≤ groups (length input)
 unfolding groups
 one_more input s k from h = let e : length s ≡ length input - 9 * k = rw from (length-drop (9 * k) input) in omega arith
+
+-- the copy of a line's bytes puts the line down
+module _ (d bytes line : List ℕ) (to used : ℕ) (text : take used bytes ≡ line) where
+  pub used_length : used ≤ length bytes → to + used ≡ to + length line
+  used_length h = ap (◌+◌ to) (sym (length-take-le used bytes h) ∙ ap length text)
+
+  pub pasted : paste d to bytes used ≡ take to d ++ line ++ drop (to + used) d
+  pasted = rw text
 
 -- one more line put down after the first k
 module _ (input start out : List ℕ) (k to : ℕ) (at : to ≡ length (text_of input k)) (so_far : out ≡ in_room (text_of input k) start) where
