@@ -111,6 +111,18 @@ module _ (b : Board) (ram picture : List ℕ) (ne : picture_refusal b (length ra
   unfolding draw_picture
   draw_stays = rw (ne_eqb (picture_refusal b (length ram) (length picture)) 0 ne)
 
+  pub draw_none : (draw_answer b ram picture).floating ≡ false
+  unfolding draw_answer
+  draw_none = rw (ne_eqb (picture_refusal b (length ram) (length picture)) 0 ne)
+
+  pub refresh_given : (refresh_answer b ram picture).board ≡ b
+  unfolding refresh_answer
+  refresh_given = rw (ne_eqb (picture_refusal b (length ram) (length picture)) 0 ne)
+
+  pub refresh_none : ((refresh_answer b ram picture).count ≡ 0) × ((refresh_answer b ram picture).floating ≡ false)
+  unfolding refresh_answer
+  refresh_none = rw (ne_eqb (picture_refusal b (length ram) (length picture)) 0 ne) (refl, refl)
+
   pub refresh_stays : picture ≡ refresh_picture b ram picture
   unfolding refresh_picture
   refresh_stays = rw (ne_eqb (picture_refusal b (length ram) (length picture)) 0 ne)

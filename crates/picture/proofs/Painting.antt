@@ -13,7 +13,7 @@ use borrow.Rule.Slice.PartMut.{put_mid, post_of}
 use Rattle.std.specs.Prelude.{None, Some}
 use Rattle.facts.specs.Lists.{overlaid}
 use Rattle.facts.specs.Tests.{first_of}
-use Rattle.facts.proofs.Overlaid.{overlaid_length, overlaid_at, overlaid_none, overlaid_same, overlaid_or, overlaid_make, between}
+use Rattle.facts.proofs.Overlaid.{overlaid_length, overlaid_at, overlaid_none, overlaid_same, overlaid_or, overlaid_make, between, between_in}
 use Rattle.facts.proofs.Searches.{Found, found_at, found_none}
 use Rattle.scanline.specs.declared.Pointer.{Pointer}
 use Rattle.scanline.specs.Pointers.{pointer_of, pointer_word}
@@ -123,6 +123,35 @@ line_done v L word p xs ys low size long w r h =
     rw (d, m) (h i l ∙ rw (r, w)))
     ∙ one_line v xs L
 
+-- byte k of a picture by the pointer of the line that starts at `first`
+unfoldable pub line_byte : ℕ → List ℕ → Pointer → ℕ → ℕ → ℕ
+line_byte control ram p first k = drawn_byte control (get_or ram (pixel_index p (k - first)) 0)
+
+-- byte i of the line
+pub line_byte_lem : (control : ℕ) (ram : List ℕ) (p : Pointer) (first i at b : ℕ) → at ≡ pixel_index p i → b ≡ drawn_byte control (get_or ram at 0)
+    → b ≡ line_byte control ram p first (first + i)
+unfolding line_byte
+line_byte_lem control ram p first i at b e f =
+    let z : first + i - first ≡ i = omega arith in
+    f ∙ rw (z, e)
+
+-- with the line's own pointer the 90 bytes are the line drawn
+pub line_over : (v : View) (L word : ℕ) (p : Pointer) (xs ys : List ℕ) → word ≡ pointer_word v.ram v.video.table v.video.top L → p ≡ pointer_of word
+    → ys ≡ overlaid (between (L * 90) (L * 90 + 90)) (line_byte v.video.control v.ram p (L * 90)) xs
+    → ys ≡ painted (λ (M : ℕ). eqb M L) v xs
+unfolding line_byte drawn pixel_at word_at
+line_over v L word p xs ys w r e =
+    e
+    ∙ overlaid_same (between (L * 90) (L * 90 + 90)) (between (L * 90) (L * 90 + 90)) (line_byte v.video.control v.ram p (L * 90)) (cell v) xs (λ k l. refl)
+    (λ k l t. same k (between_in (L * 90) (L * 90 + 90) k t))
+    ∙ one_line v xs L
+  where
+    same : (k : ℕ) → (L * 90 ≤ k) × (k < L * 90 + 90) → line_byte v.video.control v.ram p (L * 90) k ≡ cell v k
+    same k h =
+        let d : k / 90 ≡ L = omega (arith, h.0, h.1) in
+        let m : k % 90 ≡ k - L * 90 = omega (arith, h.0, h.1) in
+        rw (d, m, r, w)
+
 -- ---- line by line: the lines below n that a set has
 
 unfoldable pub passed : (ℕ → Bool) → ℕ → ℕ → Bool
@@ -166,6 +195,17 @@ module _ (p : ℕ → Bool) (v : View) (xs : List ℕ) where
       → ys ≡ painted p v xs
   passed_none n ys size l r e =
       e ∙ painted_agree v xs (passed p n) p 256 size (λ L m. passed_all p n L (λ j lo hi. found_none p n (256 - n) r j lo (omega arith)) m)
+
+  pub passed_end : (n : ℕ) (ys : List ℕ) → length xs ≡ 23040 → ((j : ℕ) → n ≤ j → j < 256 → p j ≡ false) → ys ≡ painted (passed p n) v xs
+      → ys ≡ painted p v xs
+  passed_end n ys size h e = e ∙ painted_agree v xs (passed p n) p 256 size (λ L l. passed_all p n L h l)
+
+  pub passed_nothing : (n : ℕ) (ys : List ℕ) → length xs ≡ 23040 → n < 256 → first_of p n (256 - n) ≡ None → ys ≡ painted (passed p n) v xs
+      → ys ≡ painted p v xs
+  passed_nothing n ys size l r = passed_end n ys size (λ j lo hi. found_none p n (256 - n) r j lo (omega arith))
+
+  pub passed_over : (n : ℕ) (ys : List ℕ) → length xs ≡ 23040 → 256 ≤ n → ys ≡ painted (passed p n) v xs → ys ≡ painted p v xs
+  passed_over n ys size l = passed_end n ys size (λ j lo hi. absurd (omega arith))
 
 -- the lines below n, one after the other
 module _ (v : View) (xs : List ℕ) where

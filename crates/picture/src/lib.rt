@@ -1,7 +1,7 @@
 // The picture: drawing and refreshing it, and the next dirty line.
 #![tactic(auto)]
 
-ghost use Rattle.std.specs.Prelude.{◌≡◌, length};
+ghost use Rattle.std.specs.Prelude.{◌≡◌, IfErr, None, false, length};
 ghost use Rattle.refusal.specs.Numbers.{answered};
 ghost use Rattle.board.specs.Record.{record_refusal};
 ghost use Rattle.picture.specs.Pictures.{lent_refusal, is_floating, draw_answer, draw_picture, refresh_answer, refresh_picture, next_answer, draw_result, refresh_result, next_result};
@@ -39,11 +39,11 @@ fn check_record(b: Board) -> Result<(), Refusal>
 
 // The record, and the length of the RAM.
 #[tactic(auto, unfolding(crate::specs::Pictures::lent_refusal, board::specs::Record::first_refusal, refusal::specs::Numbers::answered, refusal::specs::Numbers::named))]
-fn check_lent(b: Board, ram: usize) -> Result<(), Refusal>
-    ensures { result ≡ answered (lent_refusal b ram) tt }
+fn check_lent(board: Board, ram: usize) -> Result<(), Refusal>
+    ensures { result ≡ answered (lent_refusal board ram) tt }
 {
-    check_record(b)?;
-    let sizes = b.sizes;
+    check_record(board)?;
+    let sizes = board.sizes;
     if !sizes.ram_fits(ram) {
         return Err(Refusal::BadLength);
     }
@@ -62,6 +62,7 @@ fn is_floating(b: Board) -> bool
 pub fn draw(b: Board, ram: &[u8], picture: &mut [u8]) -> Result<Drawn, Refusal>
     ensures answer { result ≡ draw_result (draw_answer b ram.now picture.old) }
     ensures drawn { picture.new ≡ draw_picture b ram.now picture.old }
+    ensures none { IfErr result (λ r. (draw_answer b ram.now picture.old).floating ≡ false) }
 {
     check_lent(b, ram.len())?;
     let Some(lines) = picture.as_mut_array() else {
@@ -81,6 +82,8 @@ pub fn draw(b: Board, ram: &[u8], picture: &mut [u8]) -> Result<Drawn, Refusal>
 pub fn refresh(b: Board, ram: &[u8], picture: &mut [u8]) -> Result<Refreshed, Refusal>
     ensures answer { result ≡ refresh_result (refresh_answer b ram.now picture.old) }
     ensures drawn { picture.new ≡ refresh_picture b ram.now picture.old }
+    ensures given { IfErr result (λ r. (refresh_answer b ram.now picture.old).board ≡ b) }
+    ensures none { IfErr result (λ r. ((refresh_answer b ram.now picture.old).count ≡ 0) × ((refresh_answer b ram.now picture.old).floating ≡ false)) }
 {
     let dirty = b.dirty;
     check_lent(b, ram.len())?;
@@ -105,7 +108,8 @@ pub fn refresh(b: Board, ram: &[u8], picture: &mut [u8]) -> Result<Refreshed, Re
 // The first dirty line at or after n.
 #[tactic(auto, unfolding(crate::specs::Pictures::next_answer, crate::specs::Pictures::next_refusal, board::specs::Record::record_refusal, board::specs::Record::first_refusal, refusal::specs::Numbers::answered, refusal::specs::Numbers::named))]
 pub fn next_dirty(b: Board, n: u16) -> Result<Option<u16>, Refusal>
-    ensures { result ≡ next_result (next_answer b n) }
+    ensures answer { result ≡ next_result (next_answer b n) }
+    ensures none { IfErr result (λ r. (next_answer b n).line ≡ None) }
 {
     check_record(b)?;
     if n > 255 {
