@@ -14,7 +14,7 @@ pub fn draw_reply(b: Board, ram: &[u8], picture: &mut [u8]) -> u64
 {
     match picture::draw(b, ram, picture) {
         Ok(d) => accepted(0, FLOATING * d.floating as u8, 0),
-        Err(refusal) => refused(refusal),
+        Err(undrawn) => refused(undrawn),
     }
 }
 
