@@ -6,16 +6,15 @@ use crate::print::{Fields, print_refusal};
 use archive::{Entry, Pair};
 use archive_add::Label;
 use refusal::Refusal;
-use std::alloc::{AllocError, Global};
 use std::io;
 use test_bytes::{fill, sum};
 
 // `written` is the length of the archive that was written last; the room's own is what the next call is lent.
 #[derive(Drop)]
-pub(crate) struct Desk {
-    held: Lent,
-    room: Lent,
-    picture: Lent,
+pub(crate) struct Desk<'a> {
+    held: Lent<'a>,
+    room: Lent<'a>,
+    picture: Lent<'a>,
     written: usize,
 }
 
@@ -29,14 +28,14 @@ fn in_range(rt: &impl Print, bench: u32, shown: u32) -> io::Result<()> {
     println!(rt; "bench {bench} shown {shown}: in range {}", u8::from(good))
 }
 
-impl Desk {
-    pub(crate) fn new(alloc: Global) -> Result<Desk, AllocError> {
-        Ok(Desk {
-            held: Lent::new(alloc, 400000)?,
-            room: Lent::new(alloc, 400000)?,
-            picture: Lent::new(alloc, 23050)?,
+impl<'a> Desk<'a> {
+    pub(crate) fn new(held: &'a mut [u8], room: &'a mut [u8], picture: &'a mut [u8]) -> Desk<'a> {
+        Desk {
+            held: Lent::new(held),
+            room: Lent::new(room),
+            picture: Lent::new(picture),
             written: 0,
-        })
+        }
     }
 
     fn lend_picture(&mut self, length: usize, first: u8) {
@@ -153,7 +152,7 @@ impl Desk {
             Op::LendPicture { length, first } => self.lend_picture(length, first),
             Op::Start => self.start(rt)?,
             Op::Add(label) => self.add(rt, label)?,
-            Op::Hold => self.held.hold(&self.room, self.written)?,
+            Op::Hold => self.held.hold(&self.room, self.written),
             Op::Change { at, mask } => self.change(at, mask),
             Op::CountChanged { at, mask } => self.count_changed(rt, at, mask)?,
             Op::Count => self.count(rt)?,

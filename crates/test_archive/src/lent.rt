@@ -1,19 +1,15 @@
-// Memory of which the first bytes are lent to a call; those behind stay as they are, so a shorter Vec would not do. (No part of an array
-// whose length is a parameter can be lent for writing: the borrow checker does not cover it.)
-use std::alloc::{AllocError, Global};
+// Memory of which the first bytes are lent to a call; those behind stay as they are. It is lent itself, as a slice: no part of an array
+// whose length is a parameter can be lent for writing (the borrow checker does not cover it).
 
 #[derive(Drop)]
-pub(crate) struct Lent {
-    memory: Vec<u8>,
+pub(crate) struct Lent<'a> {
+    memory: &'a mut [u8],
     asked: usize,
 }
 
-impl Lent {
-    pub(crate) fn new(alloc: Global, size: usize) -> Result<Lent, AllocError> {
-        Ok(Lent {
-            memory: vec![in alloc; 0u8; size]?,
-            asked: 0,
-        })
+impl<'a> Lent<'a> {
+    pub(crate) fn new(memory: &'a mut [u8]) -> Lent<'a> {
+        Lent { memory, asked: 0 }
     }
 
     pub(crate) fn lend(&mut self, n: usize) {
@@ -31,9 +27,8 @@ impl Lent {
     }
 
     // Takes over the bytes of another of the same size, of which n are lent.
-    pub(crate) fn hold(&mut self, other: &Lent, n: usize) -> Result<(), AllocError> {
-        self.memory = other.memory.clone()?;
+    pub(crate) fn hold(&mut self, other: &Lent, n: usize) {
+        byte_rows::copy(other.memory, self.memory, 0);
         self.asked = n;
-        Ok(())
     }
 }

@@ -28,7 +28,10 @@ fn title(rt: &impl Print, input: &mut impl Read) -> io::Result<()> {
 }
 
 fn main(rt: HostRuntime) -> io::Result<()> {
-    let mut desk = Desk::new(rt.alloc())?;
+    let mut held = [0; 400000];
+    let mut room = [0; 400000];
+    let mut picture = [0; 23050];
+    let mut desk = Desk::new(&mut held, &mut room, &mut picture);
     let mut input = rt.reader();
     // A proved loop ends: this one at a number that no run uses up.
     for _ in 0..u64::MAX {

@@ -69,9 +69,25 @@ fn roll_case(rt: &impl Print, label: &str, old: u8, new: u8, said: i8) -> io::Re
     println!(rt; "{label}{not} as said")
 }
 
+// A board of 128 KB at power-on, its maps as in the cases of addresses, its table at 0.
+fn start(rate: u8) -> Board {
+    let b = test_board::start(rate);
+    Board {
+        paging: Paging {
+            maps: [0x80, 0x25, 0x98, 0x87],
+            lock: 0,
+        },
+        video: Video {
+            table: 0,
+            ..b.video
+        },
+        ..b
+    }
+}
+
 // Counter 3: the bytes that F8, F4 and F4 again give.
 fn status_case(rt: &impl Print, label: &str, ram: &mut [u8]) -> io::Result<()> {
-    let mut b = test_board::start(50);
+    let mut b = start(50);
     b.clock.counter = 3;
     print!(rt; "{label}")?;
     for port in [0xf8, 0xf4, 0xf4] {
@@ -84,7 +100,7 @@ fn status_case(rt: &impl Print, label: &str, ram: &mut [u8]) -> io::Result<()> {
 
 // One scan from a beam with the counter at 0: the counter and the beam then.
 fn scan_case(rt: &impl Print, label: &str, rate: u8, beam: u16, ram: &mut [u8]) -> io::Result<()> {
-    let mut b = test_board::start(rate);
+    let mut b = start(rate);
     b.clock.beam = beam;
     let clock = step(b, Step::Scan, ram, &[]).board.clock;
     println!(rt; "{label} {:02x} {:03x}", clock.counter, clock.beam)

@@ -12,7 +12,7 @@ use test_print::{Record, Reply, Words};
 #[derive(Drop)]
 pub(crate) struct Machine<'a> {
     board: Board,
-    memory: Vec<u8>,
+    memory: &'a mut [u8],
     ram_length: usize,
     list: &'a [u8],
     boot_length: usize,
@@ -64,7 +64,11 @@ fn print_step(rt: &impl Print, s: Numbered, a: Answer) -> io::Result<()> {
 
 impl<'a> Machine<'a> {
     // A board that is refused, and nothing lent.
-    pub(crate) fn new(rt: &impl Print, memory: Vec<u8>, list: &'a [u8]) -> io::Result<Machine<'a>> {
+    pub(crate) fn new(
+        rt: &impl Print,
+        memory: &'a mut [u8],
+        list: &'a [u8],
+    ) -> io::Result<Machine<'a>> {
         let sizes = Sizes {
             internal: 0,
             total: 0,
@@ -80,9 +84,12 @@ impl<'a> Machine<'a> {
 
     // The RAM and the boot stream, unless more of either is to be lent than there is.
     fn lent(&mut self) -> Option<(&mut [u8], &[u8])> {
-        let ram = self.memory.as_mut_slice().get_mut(..self.ram_length)?;
+        let n = self.ram_length;
+        if n > self.memory.len() {
+            return None;
+        }
         let boot = self.list.get(..self.boot_length)?;
-        Some((ram, boot))
+        Some((&mut self.memory[..n], boot))
     }
 
     // The answer to a step from the record as it is.

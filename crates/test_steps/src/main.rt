@@ -11,14 +11,13 @@ use reading::read_full;
 use std::io;
 
 fn main(rt: HostRuntime) -> io::Result<()> {
-    let alloc = rt.alloc();
     // A list is 65,536 bytes at most: what follows is not read. An interrupted read ends the run, where `read_to_end` would go on.
-    let mut list = vec![in alloc; 0u8; 65536]?;
-    let got = read_full(&mut rt.reader(), &mut list)?;
-    list.truncate(got);
+    let mut buffer = [0; 65536];
+    let got = read_full(&mut rt.reader(), &mut buffer)?;
+    let list = &buffer[..got];
     // 18 blocks of zeros and a byte.
-    let memory = vec![in alloc; 0u8; 294913]?;
-    let mut machine = Machine::new(&rt, memory, &list)?;
+    let mut memory = [0; 294913];
+    let mut machine = Machine::new(&rt, &mut memory, list)?;
     for &group in list.as_chunks::<4>().0 {
         machine.take(&rt, Group::from(group))?;
     }
