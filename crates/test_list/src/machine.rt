@@ -33,6 +33,7 @@ impl Machine {
     fn power_on(&mut self, rate: u8) {
         fill(&mut self.ram, 167);
         fill(&mut self.picture, 59);
+        fill(&mut self.full, 59);
         self.board = test_board::start(rate);
         self.tally = Tally::default();
     }
@@ -44,12 +45,11 @@ impl Machine {
         count(&mut self.tally.refused, answer.reply.outcome.is_err());
     }
 
-    // Whether a full draw gives the same picture. Its shown lines hold other bytes first, its unshown lines the pattern that
-    // the picture started with.
+    // Whether a full draw gives the same picture. Its shown lines hold other bytes first; its unshown lines have held, since
+    // power-on, the pattern that the picture started with.
     #[tactic(auto, unfolding(lineset::specs::Lines::shown_count))]
     fn is_whole(&mut self) -> bool {
         let shown = 90 * lineset::shown_count(self.board.rate) as usize;
-        fill(&mut self.full, 59);
         fill(&mut self.full[..shown], 200);
         let drawn = picture::draw(self.board, &self.ram, &mut self.full);
         drawn.is_ok() && first_difference(&self.picture, &self.full) == Ok(None)
