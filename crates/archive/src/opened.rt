@@ -6,7 +6,7 @@ ghost use Rattle.archive.specs.Sound.{count_of, entry_of, frame_at, has_pair, so
 
 use crate::layout::Layout;
 use crate::numbers::{Entry, Pair};
-use crate::unique;
+use crate::{is_sound, unique};
 use refusal::Refusal;
 
 #[derive(Clone, Copy)]
@@ -20,10 +20,10 @@ impl<'a> Archive<'a> {
     pub fn open(bytes: &'a [u8]) -> Result<Archive<'a>, Refusal>
         ensures { MatchResult result (λ s. (s.layout.bytes.now ≡ bytes.now) × (sound bytes.now ≡ true)) (λ e. (e ≡ BadArchive) × (sound bytes.now ≡ false)) }
     {
-        let layout = Layout::read(bytes).ok_or(Refusal::BadArchive)?;
-        if !layout.is_sound() {
+        if !is_sound(bytes) {
             return Err(Refusal::BadArchive);
         }
+        let layout = Layout::read(bytes).ok_or(Refusal::BadArchive)?;
         Ok(Archive { layout })
     }
 

@@ -1,4 +1,4 @@
-// A record copied field by field.
+// A record copied field by field, anew and in place.
 ghost use Rattle.std.specs.Prelude.{◌≡◌};
 
 use crate::record::{Board, Boot, Clock, Disc};
@@ -48,5 +48,34 @@ impl Board {
             bleeper: self.bleeper,
             dirty: LineSet { words },
         }
+    }
+
+    // Another record put in this one's place. What lies between the fields is not written: with it a step makes a seventh more stores,
+    // and takes a tenth more time.
+    pub fn set_by_fields(&mut self, other: Board)
+        ensures { self.new ≡ other }
+    {
+        let maps = other.paging.maps;
+        let words = other.dirty.words;
+        self.sizes.internal = other.sizes.internal;
+        self.sizes.total = other.sizes.total;
+        self.rate = other.rate;
+        self.paging.maps = maps;
+        self.paging.lock = other.paging.lock;
+        self.video.table = other.video.table;
+        self.video.top = other.video.top;
+        self.video.control = other.video.control;
+        self.clock.counter = other.clock.counter;
+        self.clock.beam = other.clock.beam;
+        self.boot.mode = other.boot.mode;
+        self.boot.at = other.boot.at;
+        self.disc.route = other.disc.route;
+        self.disc.line = other.disc.line;
+        self.disc.terminal_count = other.disc.terminal_count;
+        self.disc.motor = other.disc.motor;
+        self.external = other.external;
+        self.driven = other.driven;
+        self.bleeper = other.bleeper;
+        self.dirty.words = words;
     }
 }

@@ -1,5 +1,5 @@
 // What a scan and a port do to the record.
-ghost use Rattle.std.specs.Prelude.{◌≡◌, List, ℕ, ◌<◌};
+ghost use Rattle.std.specs.Prelude.{◌≡◌, List, ℕ, ◌<◌, set};
 ghost use Rattle.board.specs.Clock.{scanned};
 ghost use Rattle.board.specs.Record.{view_of, with_clock, with_dirty};
 ghost use Rattle.board.specs.Registers.{written};
@@ -7,6 +7,16 @@ ghost use Rattle.board.specs.Dirty.{dirty_after, with_marks};
 
 use crate::record::Board;
 use scanline::Video;
+use std::array;
+
+// The maps with another one for a bank. Each map is chosen by its bank: where one is stored among the four, which are then read together, a
+// processor waits for the store, and a port out F0 takes a fifth more time. (Stored in the record itself it keeps the whole record in memory.)
+fn with_map(maps: [u8; 4], bank: usize, map: u8) -> [u8; 4]
+    requires { bank < 4 }
+    ensures { result ≡ set maps bank map }
+{
+    array::from_fn(|i| if i == bank { map } else { maps[i] })
+}
 
 impl Board {
     // One scan on.
@@ -69,11 +79,8 @@ impl Board {
         ensures { result ≡ written self port value }
     {
         match port {
-            // (in a copy: indexed in the record itself the whole record is kept in memory, and each step takes 20 % more instructions)
             0xf0..=0xf3 => {
-                let mut maps = self.paging.maps;
-                maps[(port - 0xf0) as usize] = value;
-                self.paging.maps = maps;
+                self.paging.maps = with_map(self.paging.maps, (port - 0xf0) as usize, value)
             }
             0xf4 => self.paging.lock = value,
             0xf5 => self.video.table = value,

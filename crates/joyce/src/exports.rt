@@ -22,7 +22,7 @@ pub extern "C" fn joyce_step(
     ensures { (result ≡ step_reply (numbers_answer b.old ram.old boot.now (decoded kind number value)).reply) × ((b.new ≡ (numbers_answer b.old ram.old boot.now (decoded kind number value)).board) × (ram.new ≡ numbers_ram b.old ram.old boot.now (decoded kind number value))) }
 {
     let a = step_reply(*b, kind, number, value, ram, boot);
-    *b = a.board;
+    b.set_by_fields(a.board);
     a.word
 }
 

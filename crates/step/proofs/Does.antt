@@ -9,6 +9,7 @@ use borrow.Author.Tests.{ne_eqb, eq-eqb, le-leb, lt-leb}
 use mir.Val.{bool_byte}
 use lib.Dec.{eqb, leb}
 use lib.ListN.{get_or, set, length}
+use lib.Seq.{set-get_or}
 use Rattle.std.specs.Prelude.{Ok, Err}
 use Rattle.refusal.specs.declared.Refusal.TheVariants.{BadNumber, StreamEnded, NoPort}
 use Rattle.refusal.specs.Numbers.{named}
@@ -20,7 +21,7 @@ use Rattle.board.specs.Clock.{scanned}
 use Rattle.board.specs.Dirty.{with_marks}
 use Rattle.board.specs.Record.{first_refusal, view_of, with_clock, with_disc, with_dirty}
 use Rattle.board.specs.Registers.{written}
-use Rattle.board.proofs.Dirty.{store_past}
+use Rattle.board.proofs.Dirty.{store_past, store_same}
 use Rattle.board.proofs.Registers.{written_past}
 use Rattle.step_rules.specs.declared.Outcome.{Outcome}
 use Rattle.step_rules.specs.declared.Step.{Step}
@@ -132,6 +133,17 @@ module _ (b : Board) (ram boot : List ℕ) where
   past_marks address value h w t =
       let at : 131072 ≤ index_of (write_block b.sizes b.paging address) (place_of address) = omega (arith, h) in
       ap (λ (d : LineSet). with_dirty b d) (store_past b.dirty b.rate (view_of b ram) (write_index b.sizes b.paging address) value w t at)
+
+  -- a byte that is there already: the RAM stays, and no line is marked
+  pub equal_stores : (address value : ℕ) → get_or ram (write_index b.sizes b.paging address) 0 ≡ value → ram_after b.sizes b.paging ram (Write address value) ≡ ram
+  equal_stores address value e =
+      let at = write_index b.sizes b.paging address in
+      ap (λ (x : ℕ). set ram at x) (sym e) ∙ set-get_or ram at 0
+
+  pub equal_marks : (address value : ℕ) → get_or ram (write_index b.sizes b.paging address) 0 ≡ value → Words b.dirty → board_after b ram (Write address value) ≡ b
+  unfolding board_after
+  equal_marks address value e w =
+      ap (λ (d : LineSet). with_dirty b d) (store_same b.dirty b.rate (view_of b ram) (write_index b.sizes b.paging address) value w (equal_stores address value e))
 
   -- a port in
   pub in_clears : Words b.dirty

