@@ -50,8 +50,8 @@ impl Board {
         }
     }
 
-    // Another record put in this one's place. What lies between the fields is not written: with it a step makes a seventh more stores,
-    // and takes a tenth more time.
+    // Another record put in this one's place. What lies between the fields is not written: with it a step makes a sixth more stores,
+    // and takes up to a tenth more time.
     pub fn set_by_fields(&mut self, other: Board)
         ensures { self.new ≡ other }
     {

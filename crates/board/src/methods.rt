@@ -10,7 +10,7 @@ use scanline::Video;
 use std::array;
 
 // The maps with another one for a bank. Each map is chosen by its bank: where one is stored among the four, which are then read together, a
-// processor waits for the store, and a port out F0 takes a fifth more time. (Stored in the record itself it keeps the whole record in memory.)
+// processor waits for the store, and a port out F0 takes an eighth more time. (Stored in the record itself it keeps the whole record in memory.)
 fn with_map(maps: [u8; 4], bank: usize, map: u8) -> [u8; 4]
     requires { bank < 4 }
     ensures { result ≡ set maps bank map }
